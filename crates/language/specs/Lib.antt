@@ -1,0 +1,15 @@
+pub mod Bytes
+pub mod Objects
+pub mod Words
+pub mod Forms
+pub mod Tokens
+pub mod Judging
+pub mod Reading
+pub mod Writing
+pub mod Meanings
+pub mod Evaluation
+pub mod Laws
+pub mod Uses
+pub mod Accepted
+pub mod Answers
+pub mod Fprun

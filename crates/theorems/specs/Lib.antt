@@ -1,0 +1,6 @@
+pub mod Rows
+pub mod ReadBack
+pub mod Demand3
+pub mod EachUse
+pub mod Simplifier
+pub mod Budgets

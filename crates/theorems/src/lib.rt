@@ -1,0 +1,1 @@
+// Statements are in specs/, their proofs in proofs/.
