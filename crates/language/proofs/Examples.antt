@@ -148,6 +148,7 @@ forms =
     ∷ done "main=(atom->%Y;%N);" "<>" 4 0 1 "Y" ∷ falls "main=(id->%Y;%N);" "A" 3 0 ∷ done "main=(not.null?tl);" "<A,B>" 13 2 2 "<>" ∷ done "main=%<1,<2>>;" "A" 2 3 7 "<1,<2>>"
     ∷ falls "" "A" 1 0 ∷ falls "a=1;" "A" 1 0 ∷ falls "main=1.[id,zap];" "5" 5 0 ∷ falls "main=reverse.reverse;" "A" 3 0 ∷ falls "main=@(id.1).@tl;" "<<1>,A>" 5 3
     ∷ ends "main=id;" "A" (budget 1 8 0) 9 22 0 0 1 0 ∷ ends "main=id;" "A" (budget 0 0 0) 9 22 0 0 0 0 ∷ ends "main=id;" "A" (budget 5 0 0) 9 23 0 0 1 0 ∷ ends "main=zap;" "A" (budget 5 1 0) 9 21 0 0 2 0
+    ∷ record { program = "main=a.a;a=id;"; object = "A"; budgets = budget 9 2 0; room = 9; says = answers 20 0 0 6 0 1 "A" }
     ∷ ends "main=[id];" "A" (budget 9 9 0) 9 24 0 0 3 0 ∷ ends "main=eq;" "<<1,2>,<1,3>>" (budget 4 9 6) 9 22 0 0 4 6 ∷ ends "main=id;" "<A>" (budget 9 9 0) 9 13 0 0 0 0 ∷ ends "a=%<1,2>;" "A" (budget 9 9 1) 9 13 0 0 0 0
     ∷ ends "main=id;" "<A>" (budget 9 9 9) 2 25 0 0 2 1 ∷ ends "main=1" "<" (budget 9 9 9) 9 6 6 1 0 0 ∷ ends "main=1;" "<" (budget 9 9 9) 9 6 1 2 0 0 ∷ ends "a=1;a=1;" "<" (budget 9 9 9) 9 11 4 1 0 0
     ∷ ends "main=%" "<" (budget 1000001 9 9) 9 3 0 0 0 0 ∷ ends "main=%" "<" (budget 9 257 9) 9 4 0 0 0 0 ∷ ends "main=%" "<" (budget 9 9 4097) 9 5 0 0 0 0
