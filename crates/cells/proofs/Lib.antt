@@ -1,0 +1,2 @@
+pub mod Reps
+pub mod Places
