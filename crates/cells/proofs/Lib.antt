@@ -1,2 +1,3 @@
 pub mod Reps
 pub mod Places
+pub mod Packing
