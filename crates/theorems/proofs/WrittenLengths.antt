@@ -9,14 +9,21 @@ use lib.ListN.{length, length-append}
 use native.Mathlib.Omega.{arith}
 use Rattle.language.specs.Bytes.{bytes}
 use Rattle.language.specs.Words.{Op}
-use Rattle.language.specs.Forms.{Form, word, name, chain, construct, constant, insert, applyAll, bu, condition, while, Forms, stop, _&_, Word, select, selectRight, op, _+&_, Def, Prog}
+use Rattle.language.specs.Forms.{Form, word, name, chain, construct, constant, insert, applyAll, bu, condition, while, Forms, stop, _&_, Word, select, selectRight, op, _+&_, Prog}
 use Rattle.language.specs.Writing.{digits, decimal, writeWord, writeObj, isChain, bracketed, writeForm, writeParts, writeMoreParts, writeForms, writeMoreForms, writeProgram}
 use Rattle.language.specs.Laws.{put}
-use Rattle.language.specs.Accepted.{IsWord, IsName, IsForm, AreForms}
+use Rattle.language.specs.Accepted.{IsName, IsForm}
 
 -- the brackets that stand round a chain
 abbrev pub brackets : Form → ℕ
 brackets f = cond (isChain f) 2 0
+
+pub at-most-two : (f : Form) → brackets f ≤ 2
+at-most-two f = go (isChain f)
+  where
+    go : (b : Bool) → cond b 2 0 ≤ 2
+    go true = omega arith
+    go false = omega arith
 
 abbrev mutual
   pub formBytes : Form → ℕ
