@@ -47,14 +47,14 @@ pub record FormsIn (at room : ℕ) (fs : Forms) (e : ℕ) : Type 0 where
   pub short : at + length (writeForms fs) ≤ e
 
 -- brackets are two bytes and a mark at most
-bracket-bytes : (f : Form) (s : List ℕ) → (length s ≤ length (bracketed f s)) × (length (bracketed f s) ≤ length s + 2)
+pub bracket-bytes : (f : Form) (s : List ℕ) → (length s ≤ length (bracketed f s)) × (length (bracketed f s) ≤ length s + 2)
 bracket-bytes f s = go (isChain f)
   where
     go : (t : Bool) → (length s ≤ length (cond t (code "(" ∷ (s ++ code ")" ∷ [])) s)) × (length (cond t (code "(" ∷ (s ++ code ")" ∷ [])) s) ≤ length s + 2)
     go true = let l = length-append s (code ")" ∷ []) in omega arith
     go false = omega arith
 
-bracket-marks : (f : Form) (k : ℕ) → (k ≤ bracketMarks f k) × (bracketMarks f k ≤ suc k)
+pub bracket-marks : (f : Form) (k : ℕ) → (k ≤ bracketMarks f k) × (bracketMarks f k ≤ suc k)
 bracket-marks f k = go (isChain f)
   where
     go : (t : Bool) → (k ≤ cond t (suc k) k) × (cond t (suc k) k ≤ suc k)
