@@ -5,11 +5,11 @@ use mathlib.Core.List.{List, [], _∷_, _++_}
 use Prim.Native.Nat.{ℕ, zero, suc, _+_, _-_, _*_, _/_, _%_, _^_, _≤_, _<_}
 use native.Mathlib.Nat.{pow-suc, pow-zero}
 use native.Mathlib.Omega.{arith}
-use borrow.Author.Tests.{le-leb, leb-true, leb-false}
+use borrow.Author.Tests.{le-leb, ne-eqb, leb-true, leb-false}
 use lib.Dec.{leb, eqb}
 use lib.ListN.{length, getD, length-append, List·getD-append}
 use Rattle.language.specs.Tokens.{isDigit}
-use Rattle.language.specs.Judging.{all, valueFrom, valueOf}
+use Rattle.language.specs.Judging.{all, valueFrom, valueOf, leadingZero}
 use Rattle.language.specs.Writing.{digits, decimal}
 use Rattle.theorems.proofs.Texts.{all-append}
 
@@ -82,3 +82,11 @@ decimal-long n = digits-long n n
 pub decimal-zero : (n : ℕ) → getD (decimal n) 0 0 ≡ 48 → (n ≡ 0) × (length (decimal n) ≡ 1)
 unfolding decimal
 decimal-zero n h = digits-zero n n (under-power n) h
+
+no-leading : (ds : List ℕ) → (getD ds 0 0 ≡ 48 → length ds ≡ 1) → leadingZero ds ≡ false
+no-leading [] f = refl
+no-leading (b ∷ []) f = refl
+no-leading (b ∷ c ∷ ds) f = ne-eqb b 48 (λ e. omega (arith, f e))
+
+pub decimal-plain : (n : ℕ) → leadingZero (decimal n) ≡ false
+decimal-plain n = no-leading (decimal n) (λ e. decimal-zero n e .1)

@@ -51,6 +51,10 @@ span-all test (b ∷ a) l h =
     let i = span-all test a l (x .1) in
     rw (x .0, span) (omega arith)
 
+pub span-nil : (test : ℕ → Bool) → span test [] ≡ 0
+unfolding span
+span-nil test = refl
+
 pub span-none : (test : ℕ → Bool) (b : ℕ) (l : List ℕ) → test b ≡ false → span test (b ∷ l) ≡ 0
 unfolding span
 span-none test b l h = rw (h, span)
@@ -130,16 +134,21 @@ lower-name b h = or-left (isLower b) (isDigit b) h
 
 -- ---- a word and what follows it
 
-module _ (s : List ℕ) (p : ℕ) (b : ℕ) (a l : List ℕ) (stops : span isWordByte l ≡ 0) where
-  pub size-word : drop p s ≡ b ∷ (a ++ l) → all isWordByte (b ∷ a) ≡ true → sizeAt s p ≡ length {A = ℕ} (b ∷ a)
+module _ (s : List ℕ) (p : ℕ) (l : List ℕ) (stops : span isWordByte l ≡ 0) where
+  pub size-word : (w : List ℕ) → drop p s ≡ w ++ l → all isWordByte w ≡ true → 0 < length w → sizeAt s p ≡ length w
   unfolding sizeAt size
-  size-word e h =
+  size-word [] e h n = absurd (omega arith)
+  size-word (b ∷ a) e h n =
       let x = and-eq-true-iff (isWordByte b) (all isWordByte a) .0 h in
       rw (e, x .0, size, span-all isWordByte a l (x .1), stops) (omega arith)
 
-  pub size-dash : drop p s ≡ 45 ∷ (b ∷ (a ++ l)) → isDigit b ≡ true → all isWordByte a ≡ true → sizeAt s p ≡ suc (length {A = ℕ} (b ∷ a))
+  -- a minus and digits
+  pub size-dash : (w : List ℕ) → drop p s ≡ 45 ∷ (w ++ l) → all isDigit w ≡ true → 0 < length w → sizeAt s p ≡ suc (length w)
   unfolding sizeAt size dashSize
-  size-dash e d h = rw (e, d, dashSize, span-all isWordByte a l h, stops) (omega arith)
+  size-dash [] e h n = absurd (omega arith)
+  size-dash (b ∷ a) e h n =
+      let x = and-eq-true-iff (isDigit b) (all isDigit a) .0 h in
+      rw (e, x .0, dashSize, span-all isWordByte a l (all-weaken isDigit isWordByte digit-word a (x .1)), stops) (omega arith)
 
 -- the word at a place is what is judged
 pub judged-here : {A : Type 0} (judge : List ℕ → Judged A) (a : A) (s : List ℕ) (p : ℕ) (w l : List ℕ) →
