@@ -97,14 +97,14 @@ upper-no-digit b h = above-no-digit b (omega (arith, upper-range b h .0))
 pub lower-no-digit : (b : ℕ) → isLower b ≡ true → isDigit b ≡ false
 lower-no-digit b h = above-no-digit b (omega (arith, lower-range b h .0))
 
-or-left : (a b : Bool) → a ≡ true → (a || b) ≡ true
+pub or-left : (a b : Bool) → a ≡ true → (a || b) ≡ true
 or-left a b h = rw h
 
-or-right : (a b : Bool) → b ≡ true → (a || b) ≡ true
+pub or-right : (a b : Bool) → b ≡ true → (a || b) ≡ true
 or-right true b h = refl
 or-right false b h = h
 
-or-cases : (a b c : Bool) → (a ≡ true → c ≡ true) → (b ≡ true → c ≡ true) → (a || b) ≡ true → c ≡ true
+pub or-cases : (a b c : Bool) → (a ≡ true → c ≡ true) → (b ≡ true → c ≡ true) → (a || b) ≡ true → c ≡ true
 or-cases true b c f g h = f refl
 or-cases false b c f g h = g h
 
