@@ -1,31 +1,28 @@
 -- What a word or number is judged to be is an atom, a part or a name of the language, and is written in no more bytes.
 use Prim.Native.Nat.{ℕ, zero, suc, _+_, _-_, _*_, _/_, _%_, _^_, _≤_, _<_}
-use Prim.Native.Char.{code}
-use mathlib.Core.Path.{_≡_, refl, sym, subst, ap, _∙_}
-use mathlib.Core.Bool.{Bool, true, false, cond, _&&_, _||_, and-eq-true-iff}
+use mathlib.Core.Path.{_≡_, refl, sym, ap, _∙_}
+use mathlib.Core.Bool.{Bool, true, false, cond, _||_, and-eq-true-iff}
 use mathlib.Core.List.{List, [], _∷_, _++_}
 use mathlib.Core.Option.{Option, some, none}
 use native.Mathlib.Nat.{pow-suc, mul-le-mul-right}
 use native.Mathlib.Omega.{arith}
 use borrow.Author.Tests.{eqb-true, eqb-false, leb-true, leb-false}
 use lib.Dec.{leb, eqb}
-use lib.IntN.{ℤ, pos, negsuc, negℤ}
+use lib.IntN.{pos, negℤ}
 use lib.ListN.{length, take, drop, length-append, length-take, length-drop}
-use lib.Seq.{take-all}
 use Rattle.language.specs.Bytes.{bytes, sameBytes}
 use Rattle.language.specs.Objects.{Obj, int, symbol}
 use Rattle.language.specs.Words.{Op, entry, ops}
-use Rattle.language.specs.Forms.{Form, word, name, select, selectRight, op}
+use Rattle.language.specs.Forms.{Form, word, name, op}
 use Rattle.language.specs.Tokens.{isDigit, isLower, isUpper, isLetter, span}
-use Rattle.language.specs.Judging.{Judged, is, isNot, onJudged, all, isSymbolByte, isNameByte, judgeWord, valueFrom, valueOf, leadingZero, judgeInteger, judgeNegative, judgeAtom, findOp, isSelector, judgeSelector, wordForm, judgePart, judgeName}
+use Rattle.language.specs.Judging.{Judged, is, isNot, onJudged, all, isSymbolByte, isNameByte, judgeWord, valueFrom, valueOf, leadingZero}
+use Rattle.language.specs.Judging.{judgeInteger, judgeNegative, judgeAtom, findOp, isSelector, judgeSelector, wordForm, judgePart, judgeName}
 use Rattle.language.specs.Writing.{digits, decimal, writeInteger, writeObj, writeWord, writeForm, isChain, marksOfObj, marksOf}
-use Rattle.language.specs.Accepted.{IsInteger, IsSymbol, IsObj, IsName, IsWord, IsForm}
+use Rattle.language.specs.Accepted.{IsObj, IsName, IsForm}
+use Rattle.theorems.proofs.Texts.{digit-range, lower-no-digit, upper-no-digit}
 use Rattle.theorems.proofs.Outcomes.{MeetsWord, meetsWord, refusesWord, word-cond}
 
 -- ---- numbers
-
-digit-range : (b : ℕ) → isDigit b ≡ true → (48 ≤ b) × (b ≤ 57)
-digit-range b h = let x = and-eq-true-iff (leb 48 b) (leb b 57) .0 h in (leb-true 48 b (x .0), leb-true b 57 (x .1))
 
 -- n digits write a number below 10 ^ n
 value-from : (v : ℕ) (ds : List ℕ) → all isDigit ds ≡ true → suc (valueFrom v ds) ≤ suc v * 10 ^ length ds
@@ -77,9 +74,9 @@ word-then {A} {R} test w k f = go (leb (length w) 12) refl (all test w) refl
     go true e false h = refusesWord
     go false e u h = refusesWord
 
-integer-judged : (b : ℕ) (ds : List ℕ) → MeetsWord (IsAtomIn (suc (length ds))) (judgeInteger (b ∷ ds))
+judged-integer : (b : ℕ) (ds : List ℕ) → MeetsWord (IsAtomIn (suc (length ds))) (judgeInteger (b ∷ ds))
 unfolding judgeInteger writeInteger writeObj
-integer-judged b ds =
+judged-integer b ds =
     let v = valueOf (b ∷ ds) in
     word-cond (all isDigit (b ∷ ds))
     (λ d. word-cond (leadingZero (b ∷ ds)) (λ t. refusesWord)
@@ -91,10 +88,10 @@ unfolding writeInteger writeObj
 negative-atom zero n h l = record { isObj = omega arith; marks = omega arith; short = omega arith }
 negative-atom (suc v) n h l = record { isObj = omega arith; marks = omega arith; short = omega arith }
 
-negative-judged : (ds : List ℕ) → MeetsWord (IsAtomIn (suc (length ds))) (judgeNegative ds)
+judged-negative : (ds : List ℕ) → MeetsWord (IsAtomIn (suc (length ds))) (judgeNegative ds)
 unfolding judgeNegative
-negative-judged [] = refusesWord
-negative-judged (b ∷ ds) =
+judged-negative [] = refusesWord
+judged-negative (b ∷ ds) =
     let v = valueOf (b ∷ ds) in
     word-cond (all isDigit (b ∷ ds))
     (λ d. word-cond (eqb b 48) (λ t. refusesWord)
@@ -112,13 +109,13 @@ symbol-of b w d h l =
     let x = and-eq-true-iff (isSymbolByte b) (all isSymbolByte w) .0 h in
     record { isObj = (first-of (isUpper b) (isDigit b) d (x .0), x .1, l); marks = omega arith; short = omega arith }
 
-pub atom-judged : (w : List ℕ) → MeetsWord (IsAtomIn (length w)) (judgeAtom w)
+pub judged-atom : (w : List ℕ) → MeetsWord (IsAtomIn (length w)) (judgeAtom w)
 unfolding judgeAtom
-atom-judged [] = refusesWord
-atom-judged (b ∷ w) =
-    word-cond (isDigit b) (λ d. integer-judged b w)
+judged-atom [] = refusesWord
+judged-atom (b ∷ w) =
+    word-cond (isDigit b) (λ d. judged-integer b w)
     (λ d. word-cond (isLetter b) (λ l. word-then isSymbolByte (b ∷ w) (λ v. is (symbol v)) (λ h n. meetsWord (symbol-of b w d h n)))
-      (λ l. word-cond (eqb b 45) (λ t. negative-judged w) (λ t. refusesWord)))
+      (λ l. word-cond (eqb b 45) (λ t. judged-negative w) (λ t. refusesWord)))
 
 -- ---- where a part may stand
 
@@ -190,15 +187,17 @@ selector-of (b ∷ ds) d h = go (eqb b 48) refl h
         let o : 1 ≤ b - 48 = omega (arith, r .0) in
         (omega arith, leb-true (valueOf (b ∷ ds)) 255 g, decimal-short b ds d)
 
-pub selector-judged : (w : List ℕ) → MeetsWord (IsPartIn (length w)) (judgeSelector w)
+pub judged-selector : (w : List ℕ) → MeetsWord (IsPartIn (length w)) (judgeSelector w)
 unfolding judgeSelector writeForm writeWord
-selector-judged w =
+judged-selector w =
     let n = span isDigit w in
     let d = span-passes isDigit w in
     let lt = length-take n w in
     let ld = length-drop n w in
     word-cond (sameBytes (drop n w) [])
-    (λ t. word-cond (isSelector (take n w)) (λ h. let k = selector-of (take n w) d h in meetsWord (record { isForm = (k .0, k .1); marks = omega arith; noChain = refl; short = omega arith })) (λ h. refusesWord))
+    (λ t. word-cond (isSelector (take n w))
+      (λ h. let k = selector-of (take n w) d h in meetsWord (record { isForm = (k .0, k .1); marks = omega arith; noChain = refl; short = omega arith }))
+      (λ h. refusesWord))
     (λ t. word-cond (sameBytes (drop n w) (bytes "r"))
       (λ u. word-cond (isSelector (take n w))
         (λ h.
@@ -208,11 +207,11 @@ selector-judged w =
         (λ h. refusesWord))
       (λ u. refusesWord))
 
-pub part-judged : (w : List ℕ) → MeetsWord (IsPartIn (length w)) (judgePart w)
+pub judged-part : (w : List ℕ) → MeetsWord (IsPartIn (length w)) (judgePart w)
 unfolding judgePart
-part-judged [] = refusesWord
-part-judged (b ∷ w) =
-    word-cond (isDigit b) (λ d. selector-judged (b ∷ w))
+judged-part [] = refusesWord
+judged-part (b ∷ w) =
+    word-cond (isDigit b) (λ d. judged-selector (b ∷ w))
     (λ d. word-cond (isLetter b) (λ l. word-then isNameByte (b ∷ w) (λ v. is (wordForm v)) (λ h n. meetsWord (word-form b w d h n))) (λ l. refusesWord))
 
 -- ---- where a defined name may stand
@@ -221,20 +220,13 @@ pub record IsNameIn (n : ℕ) (w : List ℕ) : Type 0 where
   pub isName : IsName w
   pub short : length w ≤ n
 
-lower-range : (b : ℕ) → isLower b ≡ true → 97 ≤ b
-lower-range b h = leb-true 97 b (and-eq-true-iff (leb 97 b) (leb b 122) .0 h .0)
-
-upper-range : (b : ℕ) → isUpper b ≡ true → 65 ≤ b
-upper-range b h = leb-true 65 b (and-eq-true-iff (leb 65 b) (leb b 90) .0 h .0)
-
 letter-no-digit : (b : ℕ) → isLetter b ≡ true → isDigit b ≡ false
-letter-no-digit b h = go (isLower b) (isUpper b) refl refl h (isDigit b) refl
+letter-no-digit b h = go (isLower b) (isUpper b) refl refl h
   where
-    go : (l u : Bool) → isLower b ≡ l → isUpper b ≡ u → (l || u) ≡ true → (d : Bool) → isDigit b ≡ d → d ≡ false
-    go l u el eu h false e = refl
-    go true u el eu h true e = let r = digit-range b e in absurd (omega (arith, lower-range b el, r .1))
-    go false true el eu h true e = let r = digit-range b e in absurd (omega (arith, upper-range b eu, r .1))
-    go false false el eu h true e = sym h
+    go : (l u : Bool) → isLower b ≡ l → isUpper b ≡ u → (l || u) ≡ true → isDigit b ≡ false
+    go true u el eu h = lower-no-digit b el
+    go false true el eu h = upper-no-digit b eu
+    go false false el eu h = let z : _≡_ {A = ℕ} 0 1 = cc in absurd (omega arith)
 
 abbrev newName : List ℕ → Judged (List ℕ)
 newName v = elim (findOp ops v) [ some o ↦ isNot 6 | none ↦ is v ]
@@ -246,8 +238,8 @@ name-of b w d h l = go (findOp ops (b ∷ w)) refl
     go (some o) e = refusesWord
     go none e = meetsWord {a = b ∷ w} (record { isName = is-name b w d h l e; short = omega arith })
 
-pub name-judged : (w : List ℕ) → MeetsWord (IsNameIn (length w)) (judgeName w)
+pub judged-name : (w : List ℕ) → MeetsWord (IsNameIn (length w)) (judgeName w)
 unfolding judgeName
-name-judged [] = refusesWord
-name-judged (b ∷ w) =
+judged-name [] = refusesWord
+judged-name (b ∷ w) =
     word-cond (isLetter b) (λ l. word-then isNameByte (b ∷ w) newName (λ h n. name-of b w (letter-no-digit b l) h n)) (λ l. refusesWord)

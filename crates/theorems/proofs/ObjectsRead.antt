@@ -1,22 +1,19 @@
 -- Whatever is read as an object is one that texts can hold, of at most 32 marks, and is written in no more bytes than were read.
 use Prim.Native.Nat.{ℕ, zero, suc, _+_, _-_, _≤_}
 use Prim.Native.Char.{code}
-use mathlib.Core.Path.{_≡_, refl}
-use mathlib.Core.Bool.{Bool, true, false, cond}
-use mathlib.Core.List.{List, [], _∷_, _++_}
+use mathlib.Core.List.{List}
 use native.Mathlib.Omega.{arith}
 use borrow.Author.Tests.{eqb-true}
 use lib.Dec.{eqb}
 use lib.ListN.{length, length-append}
-use Rattle.language.specs.Objects.{Obj, seq, Objs, nil, _::_}
+use Rattle.language.specs.Objects.{Obj, Objs, nil, _::_}
 use Rattle.language.specs.Tokens.{byteAt, placeFrom, sizeAt}
-use Rattle.language.specs.Judging.{judgeAtom}
-use Rattle.language.specs.Reading.{Got, got, andThen, wordAt, asJudged, opens, insideSequence, afterObject, readObj, readObjs, atEnd, calls, markLimit, readObject}
+use Rattle.language.specs.Reading.{Got, wordAt, insideSequence, afterObject, readObj, readObjs, atEnd, calls, markLimit, readObject}
 use Rattle.language.specs.Writing.{writeObj, writeObjs, writeMoreObjs, marksOfObj, marksOfObjs}
 use Rattle.language.specs.Accepted.{IsObj, AreObjs}
 use Rattle.theorems.specs.ReadBack.{ReadObject, ObjectsRead}
 use Rattle.theorems.proofs.Outcomes.{Meets, meets, refuses, got-meets, meets-then, meets-cond, meets-refused, meets-opens, meets-judged, place-on, word-long}
-use Rattle.theorems.proofs.JudgedWords.{IsAtomIn, atom-judged}
+use Rattle.theorems.proofs.JudgedWords.{IsAtomIn, judged-atom}
 
 -- from `at` to `e`, where `room` marks might open
 pub record ObjectIn (at room : ℕ) (x : Obj) (e : ℕ) : Type 0 where
@@ -73,7 +70,7 @@ mutual
     meets-cond (eqb (byteAt s p) (code "<"))
     (λ t. meets-opens p room (λ a. insideSequence s a (λ b. readObjs k s b (room - 1)))
       (λ l. sequence-in s at room (p + 1) (λ b. readObjs k s b (room - 1)) (omega arith) l (objects-in k s (p + 1) (room - 1))))
-    (λ t. meets-judged s p (atom-judged (wordAt s p)) (λ x h. atom-in s at room x h))
+    (λ t. meets-judged s p (judged-atom (wordAt s p)) (λ x h. atom-in s at room x h))
 
   objects-in : (k : ℕ) (s : List ℕ) (at room : ℕ) → Meets (ObjectsIn at room) (readObjs k s at room)
   objects-in zero s at room = refuses

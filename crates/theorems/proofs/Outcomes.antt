@@ -1,13 +1,12 @@
 -- A reader's outcome meets a demand if whatever it got does; a rule for each step of a reader.
-use Prim.Native.Nat.{ℕ, zero, suc, _+_, _-_, _≤_}
-use mathlib.Core.Path.{_≡_, refl, sym, subst}
+use Prim.Native.Nat.{ℕ, _+_, _≤_}
+use mathlib.Core.Path.{_≡_, refl, subst}
 use mathlib.Core.Bool.{Bool, true, false, cond}
-use mathlib.Core.List.{List, [], _∷_}
+use mathlib.Core.List.{List}
 use native.Mathlib.Omega.{arith}
 use borrow.Author.Tests.{eqb-false}
 use lib.Dec.{eqb}
-use lib.ListN.{length, take, drop, length-take, length-drop}
-use lib.Seq.{slice}
+use lib.ListN.{length, length-take, length-drop}
 use Rattle.language.specs.Tokens.{byteAt, placeFrom, sizeAt}
 use Rattle.language.specs.Judging.{Judged, is, isNot}
 use Rattle.language.specs.Reading.{Got, got, no, andThen, wordAt, asJudged, refused, mark, opens}
@@ -27,10 +26,6 @@ module _ {A : Type 0} {Q : A → ℕ → Type 0} where
   -- what is got meets the demand
   pub got-meets : {r : Got A} {a : A} {e : ℕ} → Meets Q r → r ≡ got a e → Q a e
   got-meets h q = met (subst (λ (u : Got A). Meets Q u) q h)
-
-  pub meets-more : {R : A → ℕ → Type 0} {r : Got A} → Meets Q r → ((a : A) (e : ℕ) → Q a e → R a e) → Meets R r
-  meets-more (meets q) f = meets (f _ _ q)
-  meets-more refuses f = refuses
 
   pub meets-then : {B : Type 0} {R : B → ℕ → Type 0} {r : Got A} {k : A → ℕ → Got B} → Meets Q r → ((a : A) (e : ℕ) → Q a e → Meets R (k a e)) → Meets R (andThen r k)
   meets-then (meets q) f = f _ _ q

@@ -9,15 +9,16 @@ use borrow.Author.Tests.{eqb-true, ltb-false}
 use lib.Dec.{eqb, ltb}
 use lib.ListN.{length, length-append}
 use Rattle.language.specs.Objects.{Obj}
-use Rattle.language.specs.Forms.{Form, chain, construct, constant, insert, applyAll, bu, condition, while, Forms, stop, _&_, Def, Prog, formsOf}
+use Rattle.language.specs.Forms.{Form, construct, constant, insert, applyAll, bu, condition, while, Forms, stop, _&_, Prog, formsOf}
 use Rattle.language.specs.Tokens.{byteAt, placeFrom, sizeAt}
-use Rattle.language.specs.Judging.{judgePart, judgeName}
-use Rattle.language.specs.Reading.{Got, got, no, andThen, wordAt, asJudged, mark, opens, readObj, calls, markLimit, afterTest, afterPart, afterParts, afterForm, readForm, readParts, readForms, readPart, Placed, definitionAt, readDefinitions, isIn, noneTwice, withinLimits, readProgram}
-use Rattle.language.specs.Writing.{writeObj, writeForm, writeParts, writeMoreParts, writeForms, writeMoreForms, writeProgram, isChain, bracketed, marksOfObj, marksOf, bracketMarks, marksOfParts, marksOfForms, marksOfProgram}
-use Rattle.language.specs.Accepted.{IsForm, AreForms, IsName, OneOrMore, AreDefinitions, Different, WellFormed}
+use Rattle.language.specs.Reading.{Got, got, andThen, wordAt, mark, readObj, calls, markLimit, afterTest, afterPart, afterParts, afterForm}
+use Rattle.language.specs.Reading.{readForm, readParts, readForms, readPart, Placed, definitionAt, readDefinitions, isIn, noneTwice, withinLimits, readProgram}
+use Rattle.language.specs.Writing.{writeForm, writeParts, writeMoreParts, writeForms, writeMoreForms, writeProgram}
+use Rattle.language.specs.Writing.{isChain, bracketed, marksOf, bracketMarks, marksOfParts, marksOfForms, marksOfProgram}
+use Rattle.language.specs.Accepted.{IsForm, AreForms, IsName, OneOrMore, AreDefinitions, Different}
 use Rattle.theorems.specs.ReadBack.{ReadProgram, ProgramsRead}
 use Rattle.theorems.proofs.Outcomes.{Meets, meets, refuses, got-meets, meets-then, meets-cond, meets-refused, meets-mark, meets-opens, meets-judged, place-on, word-long}
-use Rattle.theorems.proofs.JudgedWords.{IsPartIn, part-judged, IsNameIn, name-judged}
+use Rattle.theorems.proofs.JudgedWords.{IsPartIn, judged-part, judged-name}
 use Rattle.theorems.proofs.ObjectsRead.{ObjectIn, object-in}
 
 -- ---- what is read from `at` to `e`, where `room` marks might open
@@ -221,7 +222,7 @@ mutual
     (λ t. meets-cond (eqb b (code "("))
     (λ t. meets-opens p room (λ a. andThen (readForm k s a (room - 1)) (λ f e. afterTest s f e (λ a. readForm k s a (room - 1))))
       (λ l. meets-then (form-in k s a (room - 1)) (λ f e q. after-test s at room f a e (λ a. readForm k s a (room - 1)) la l q (λ b. form-in k s b (room - 1)))))
-    (λ t. meets-judged s p (part-judged (wordAt s p)) (λ f h. word-in s at room f h)))))))
+    (λ t. meets-judged s p (judged-part (wordAt s p)) (λ f h. word-in s at room f h)))))))
 
 -- ---- definitions
 
@@ -260,7 +261,9 @@ definitions-in (suc k) s at =
     meets-cond (eqb p (length s))
     (λ t. meets (record { definitions = tt; marks = omega arith; ends = eqb-true p (length s) t; short = omega arith }))
     (λ t. meets-then {Q = DefinitionIn at}
-      (meets-then {Q = λ w e. IsName w × (at + length w ≤ e)} (meets-judged s p (name-judged (wordAt s p)) (λ w h. (h .isName, omega (arith, h .short)))) (λ w e h. definition-in k s at p w e (h .0) (h .1)))
+      (meets-then {Q = λ w e. IsName w × (at + length w ≤ e)}
+        (meets-judged s p (judged-name (wordAt s p)) (λ w h. (h .isName, omega (arith, h .short))))
+        (λ w e h. definition-in k s at p w e (h .0) (h .1)))
       (λ d e q. meets-then (definitions-in k s e) (λ ds e₁ qs.
         meets (record
           { definitions = (q .isName, q .isForm, qs .definitions); marks = omega (arith, q .marks, qs .marks); ends = qs .ends
