@@ -1,6 +1,6 @@
 -- What ends, free of budgets: a job's result with its exact steps and cells, with the most names open at once below it.
 use Prim.Native.Nat.{ℕ, zero, suc, _+_, _*_, _-_, _≤_, max}
-use mathlib.Core.Path.{_≡_, refl}
+use mathlib.Core.Path.{_≡_, refl, subst₃}
 use mathlib.Core.Option.{Option, some, none}
 use Rattle.language.specs.Objects.{Obj, int, symbol, seq, Objs, nil, _::_, lengthOf, truthOf, isT, isF, neither}
 use Rattle.language.specs.Forms.{Word, Form, word, name, chain, construct, constant, insert, applyAll, bu, condition, while, Forms, stop, _&_, Def, Prog}
@@ -59,3 +59,7 @@ module _ (e : Edition) (P : Prog) where
     loop-F : {d : ℕ} {p f : Form} {x b : Obj} {s c : ℕ} → Ends d (just p x) (object b) s c → truthOf b ≡ isF → Ends d (loop p f x) (object x) s c
     loop-fell : {d d′ : ℕ} {p f : Form} {x b : Obj} {s c s′ c′ : ℕ} → Ends d (just p x) (object b) s c → truthOf b ≡ isT → Ends d′ (just f x) bottom s′ c′ → Ends (max d d′) (loop p f x) bottom (s + s′) (c + c′)
     loop-go : {d d′ d″ : ℕ} {p f : Form} {x b y : Obj} {r : Result} {s c s′ c′ s″ c″ : ℕ} → Ends d (just p x) (object b) s c → truthOf b ≡ isT → Ends d′ (just f x) (object y) s′ c′ → Ends d″ (loop p f y) r s″ c″ → Ends (max d (max d′ d″)) (loop p f x) r (s + (s′ + s″)) (c + (c′ + c″))
+
+  -- the same end, its counts written in another way
+  pub recount : {d s c d₁ s₁ c₁ : ℕ} {j : Job} {r : Result} → d ≡ d₁ → s ≡ s₁ → c ≡ c₁ → Ends d j r s c → Ends d₁ j r s₁ c₁
+  recount {j = j} {r = r} h p q D = subst₃ (λ (t u v : ℕ). Ends t j r u v) h p q D

@@ -12,7 +12,7 @@ use Rattle.language.specs.Objects.{Obj, int, symbol, seq, Objs, nil, _::_, leng
 use Rattle.language.specs.Forms.{Word, Form, word, name, chain, construct, constant, insert, applyAll, bu, condition, while, Forms, stop, _&_, Def, Prog}
 use Rattle.language.specs.Meanings.{Edition, one, WordAnswer, falls, gives, meaning, pair}
 use Rattle.language.specs.Evaluation.{Spent, noStep, noName, noCell, Out, value, bottom as fallen, spent, bind, askStep, askSteps, askCells, withNames, close, askName, lookup, charged, Apply, chainBy, constructBy, eachBy, insertBy, whileBy, insertOn, applyAllOn, decide, gathered, inside, apply}
-use Rattle.theorems.proofs.Ends.{Job, just, parts, items, each, fold, loop, Result, object, bottom, Ends, word-bottom, word-object, name-bottom, name-in, chain-in, construct-object, construct-bottom, constant-in, insert-fold, insert-nil, insert-int, insert-symbol, applyAll-object, applyAll-bottom, applyAll-int, applyAll-symbol, bu-in, condition-bottom, condition-no, condition-T, condition-F, while-in, parts-stop, parts-bottom, parts-go, items-stop, items-bottom, items-late, items-go, each-nil, each-bottom, each-late, each-go, fold-one, fold-bottom, fold-go, loop-bottom, loop-no, loop-F, loop-fell, loop-go}
+use Rattle.theorems.proofs.Ends.{Job, just, parts, items, each, fold, loop, Result, object, bottom, Ends, recount, word-bottom, word-object, name-bottom, name-in, chain-in, construct-object, construct-bottom, constant-in, insert-fold, insert-nil, insert-int, insert-symbol, applyAll-object, applyAll-bottom, applyAll-int, applyAll-symbol, bu-in, condition-bottom, condition-no, condition-T, condition-F, while-in, parts-stop, parts-bottom, parts-go, items-stop, items-bottom, items-late, items-go, each-nil, each-bottom, each-late, each-go, fold-one, fold-bottom, fold-go, loop-bottom, loop-no, loop-F, loop-fell, loop-go}
 
 module _ (e : Edition) (P : Prog) where
   -- from m, with a steps and b cells paid before, to m′
@@ -116,9 +116,6 @@ module _ (e : Edition) (P : Prog) where
   at-cost : {s c d : ℕ} {j : Job} {r : Result} {m : Meter} → Ends e P d j r s c → d ≤ m .names → Spends s c j r m m
   at-cost D h = record { d = _; s = _; c = _; ends = D; fits = h; steps = refl; cells = refl; names = refl }
 
-  recount : {d s c d₁ s₁ c₁ : ℕ} {j : Job} {r : Result} → d ≡ d₁ → s ≡ s₁ → c ≡ c₁ → Ends e P d j r s c → Ends e P d₁ j r s₁ c₁
-  recount {j = j} {r = r} h p q D = subst₃ (λ (t u v : ℕ). Ends e P t j r u v) h p q D
-
   more : {a b : ℕ} (q : ℕ) {j j₂ : Job} {r₂ r : Result} {m m₁ : Meter} (F : Spends 0 0 j₂ r₂ m m₁) → q ≤ m .names → Ends e P (max q (F .d)) j r (a + F .s) (b + F .c) → Spends a b j r m m₁
   more {a = a} {b = b} q F h D = record { d = max q (F .d); s = a + F .s; c = b + F .c; ends = D; fits = omega (arith, F .fits); steps = omega (arith, F .steps); cells = omega (arith, F .cells); names = F .names }
 
@@ -179,14 +176,14 @@ module _ (e : Edition) (P : Prog) where
     -- n cells for a finished sequence
     shut : {j j₁ : Job} {m : Meter} {o : Out Objs} → ((ys : Objs) (d s c : ℕ) → Ends e P d j₁ (object (seq ys)) s c → Ends e P d j (object (seq ys)) (suc s) (c + lengthOf ys)) → ((d s c : ℕ) → Ends e P d j₁ bottom s c → Ends e P d j bottom (suc s) c) → ExplainsAll j₁ m o → Explains 1 0 j m (bind o (λ ys m₁. askCells (lengthOf ys) m₁ (λ m₂. value (seq ys) m₂)))
     shut k l (ex-objects {ys = ys} {m′ = m₁} E) =
-        shift (from {a = 1} E) (cells-sound (lengthOf ys) m₁ (λ m₂. value (seq ys) m₂) (λ m₂ h. ex-object (at-cost (recount refl (omega arith) refl (k ys _ _ _ (E .ends))) (omega (arith, E .fits, E .names)))))
+        shift (from {a = 1} E) (cells-sound (lengthOf ys) m₁ (λ m₂. value (seq ys) m₂) (λ m₂ h. ex-object (at-cost (recount e P refl (omega arith) refl (k ys _ _ _ (E .ends))) (omega (arith, E .fits, E .names)))))
     shut k l (ex-bottoms E) = ex-bottom (stop-at⁺ E (l _ _ _ (E .ends)))
     shut k l ex-out-all = ex-out
 
     after-fold : {f : Form} {x y : Obj} {ys : Objs} {m : Meter} {o : Out Obj} → Explains 0 0 (fold f y ys) m o → Explains 0 0 (fold f x (y :: ys)) m (bind o (λ z m₁. askCells 2 m₁ (λ m₂. ap f (pair x z) m₂)))
     after-fold {f = f} {x = x} (ex-object {v = z} {m′ = m₁} E) =
         shift (from {a = 0} E) (cells-sound 2 m₁ (λ m₂. ap f (pair x z) m₂) (λ m₂ h.
-        lift (E .d) (0 + E .s) (E .c + 2) (omega (arith, E .fits, E .names)) (λ r d s c D. recount refl (omega arith) (omega arith) (fold-go (E .ends) D)) (g f (pair x z) m₂)))
+        lift (E .d) (0 + E .s) (E .c + 2) (omega (arith, E .fits, E .names)) (λ r d s c D. recount e P refl (omega arith) (omega arith) (fold-go (E .ends) D)) (g f (pair x z) m₂)))
     after-fold (ex-bottom E) = ex-bottom (stop-at E (fold-bottom (E .ends)))
     after-fold ex-out = ex-out
 
@@ -208,7 +205,7 @@ module _ (e : Edition) (P : Prog) where
     -- a round of while
     after-body : {p f : Form} {x b : Obj} {m m₁ : Meter} {o : Out Obj} (k : Obj → Meter → Out Obj) → Spends 0 0 (just p x) (object b) m m₁ → truthOf b ≡ isT → ((y : Obj) (m₂ : Meter) → m₂ .names ≡ m₁ .names → Explains 0 0 (loop p f y) m₂ (k y m₂)) → Explains 0 0 (just f x) m₁ o → Explains 0 0 (loop p f x) m (bind o (λ y m₂. k y m₂))
     after-body k E t h (ex-object {v = y} {m′ = m₂} F) =
-        shift (from₂ E F) (lift (max (E .d) (F .d)) (E .s + F .s) (E .c + F .c) (omega (arith, E .fits, F .fits, E .names, F .names)) (λ r d s c D. recount (omega arith) (omega arith) (omega arith) (loop-go (E .ends) t (F .ends) D)) (h y m₂ (sym (F .names))))
+        shift (from₂ E F) (lift (max (E .d) (F .d)) (E .s + F .s) (E .c + F .c) (omega (arith, E .fits, F .fits, E .names, F .names)) (λ r d s c D. recount e P (omega arith) (omega arith) (omega arith) (loop-go (E .ends) t (F .ends) D)) (h y m₂ (sym (F .names))))
     after-body k E t h (ex-bottom F) = ex-bottom (both E F (loop-fell (E .ends) t (F .ends)))
     after-body k E t h ex-out = ex-out
 
@@ -246,7 +243,7 @@ module _ (e : Edition) (P : Prog) where
     by-meaning : {w : Word} {x : Obj} (m : Meter) (a : WordAnswer) → meaning e w x ≡ a → Explains 1 0 (just (word w) x) m (charged a m)
     by-meaning m falls h = ex-bottom (at-once⁺ (word-bottom h))
     by-meaning m (gives s c v) h =
-        steps-sound s m (λ m₁. askCells c m₁ (λ m₂. value v m₂)) (λ m₁ u. cells-sound c m₁ (λ m₂. value v m₂) (λ m₂ u′. ex-object (at-cost (recount refl (omega arith) (omega arith) (word-object h)) (omega arith))))
+        steps-sound s m (λ m₁. askCells c m₁ (λ m₂. value v m₂)) (λ m₁ u. cells-sound c m₁ (λ m₂. value v m₂) (λ m₂ u′. ex-object (at-cost (recount e P refl (omega arith) (omega arith) (word-object h)) (omega arith))))
 
 
     insert-sound : (f : Form) (x : Obj) (m : Meter) → Explains 1 0 (just (insert f) x) m (insertOn ap f x m)
@@ -269,7 +266,7 @@ module _ (e : Edition) (P : Prog) where
     inside-sound n (insert f) x m = insert-sound f x m
     inside-sound n (applyAll f) x m = applyAll-sound f x m
     inside-sound n (bu f y) x m =
-        cells-sound 2 m (λ m₁. ap f (pair y x) m₁) (λ m₁ h. lift 0 1 (0 + 2) (omega arith) (λ r d s c D. recount (omega arith) (omega arith) (omega arith) (bu-in D)) (g f (pair y x) m₁))
+        cells-sound 2 m (λ m₁. ap f (pair y x) m₁) (λ m₁ h. lift 0 1 (0 + 2) (omega arith) (λ r d s c D. recount e P (omega arith) (omega arith) (omega arith) (bu-in D)) (g f (pair y x) m₁))
     inside-sound n (condition p f h) x m = after-condition (g p x m)
     inside-sound n (while p f) x m = wrap (λ r d s c D. while-in D) (loop-sound n p f x m)
 
