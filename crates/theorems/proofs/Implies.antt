@@ -61,38 +61,38 @@ abbrev pub ImpI : Edition → Prog → Forms → Forms → Type 0
 ImpI e Q fs fs′ = (x : Obj) → Imp e Q (items fs x) (items fs′ x)
 
 -- Inside every form, where its parts imply each other.
-part-head : {f f′ : Form} (fs : Forms) (e : Edition) (Q : Prog) → ImpF e Q f f′ → ImpP e Q (f & fs) (f′ & fs)
+pub part-head : {f f′ : Form} (fs : Forms) (e : Edition) (Q : Prog) → ImpF e Q f f′ → ImpP e Q (f & fs) (f′ & fs)
 part-head fs e Q p x = record { fwd = parts-head e Q Less Less-closed fs (λ y. p y .fwd) x; bwd = parts-head e Q Any Any-closed fs (λ y. p y .bwd) x }
 
-part-tail : (f : Form) {fs fs′ : Forms} (e : Edition) (Q : Prog) → ImpP e Q fs fs′ → ImpP e Q (f & fs) (f & fs′)
+pub part-tail : (f : Form) {fs fs′ : Forms} (e : Edition) (Q : Prog) → ImpP e Q fs fs′ → ImpP e Q (f & fs) (f & fs′)
 part-tail f e Q p x = record { fwd = parts-tail e Q Less Less-closed f x (p x .fwd); bwd = parts-tail e Q Any Any-closed f x (p x .bwd) }
 
-in-chain : {fs fs′ : Forms} (e : Edition) (Q : Prog) → ImpP e Q fs fs′ → ImpF e Q (chain fs) (chain fs′)
+pub in-chain : {fs fs′ : Forms} (e : Edition) (Q : Prog) → ImpP e Q fs fs′ → ImpF e Q (chain fs) (chain fs′)
 in-chain e Q p x = record { fwd = chain-sub e Q Less Less-closed x (p x .fwd); bwd = chain-sub e Q Any Any-closed x (p x .bwd) }
 
-item-head : {f f′ : Form} (fs : Forms) (e : Edition) (Q : Prog) → ImpF e Q f f′ → ImpI e Q (f & fs) (f′ & fs)
+pub item-head : {f f′ : Form} (fs : Forms) (e : Edition) (Q : Prog) → ImpF e Q f f′ → ImpI e Q (f & fs) (f′ & fs)
 item-head fs e Q p x = record { fwd = items-head e Q Less Less-closed fs (λ y. p y .fwd) x; bwd = items-head e Q Any Any-closed fs (λ y. p y .bwd) x }
 
-item-tail : (f : Form) {fs fs′ : Forms} (e : Edition) (Q : Prog) → ImpI e Q fs fs′ → ImpI e Q (f & fs) (f & fs′)
+pub item-tail : (f : Form) {fs fs′ : Forms} (e : Edition) (Q : Prog) → ImpI e Q fs fs′ → ImpI e Q (f & fs) (f & fs′)
 item-tail f e Q p x = record { fwd = items-tail e Q Less Less-closed f x (p x .fwd); bwd = items-tail e Q Any Any-closed f x (p x .bwd) }
 
-in-construct : {fs fs′ : Forms} (e : Edition) (Q : Prog) → ImpI e Q fs fs′ → ImpF e Q (construct fs) (construct fs′)
+pub in-construct : {fs fs′ : Forms} (e : Edition) (Q : Prog) → ImpI e Q fs fs′ → ImpF e Q (construct fs) (construct fs′)
 in-construct e Q p x = record { fwd = construct-sub e Q Less Less-closed x (p x .fwd); bwd = construct-sub e Q Any Any-closed x (p x .bwd) }
 
-in-insert : {f f′ : Form} (e : Edition) (Q : Prog) → ImpF e Q f f′ → ImpF e Q (insert f) (insert f′)
+pub in-insert : {f f′ : Form} (e : Edition) (Q : Prog) → ImpF e Q f f′ → ImpF e Q (insert f) (insert f′)
 in-insert e Q p x = record { fwd = insert-sub e Q Less Less-closed (λ y. p y .fwd) x; bwd = insert-sub e Q Any Any-closed (λ y. p y .bwd) x }
 
-in-applyAll : {f f′ : Form} (e : Edition) (Q : Prog) → ImpF e Q f f′ → ImpF e Q (applyAll f) (applyAll f′)
+pub in-applyAll : {f f′ : Form} (e : Edition) (Q : Prog) → ImpF e Q f f′ → ImpF e Q (applyAll f) (applyAll f′)
 in-applyAll e Q p x = record { fwd = applyAll-sub e Q Less Less-closed (λ y. p y .fwd) x; bwd = applyAll-sub e Q Any Any-closed (λ y. p y .bwd) x }
 
-in-bu : {f f′ : Form} (y : Obj) (e : Edition) (Q : Prog) → ImpF e Q f f′ → ImpF e Q (bu f y) (bu f′ y)
+pub in-bu : {f f′ : Form} (y : Obj) (e : Edition) (Q : Prog) → ImpF e Q f f′ → ImpF e Q (bu f y) (bu f′ y)
 in-bu y e Q p x = record { fwd = bu-sub e Q Less Less-closed y (λ z. p z .fwd) x; bwd = bu-sub e Q Any Any-closed y (λ z. p z .bwd) x }
 
-in-condition : {p p′ f f′ g g′ : Form} (e : Edition) (Q : Prog) → ImpF e Q p p′ → ImpF e Q f f′ → ImpF e Q g g′ → ImpF e Q (condition p f g) (condition p′ f′ g′)
+pub in-condition : {p p′ f f′ g g′ : Form} (e : Edition) (Q : Prog) → ImpF e Q p p′ → ImpF e Q f f′ → ImpF e Q g g′ → ImpF e Q (condition p f g) (condition p′ f′ g′)
 in-condition e Q p f g x = record { fwd = condition-sub e Q Less Less-closed (λ y. p y .fwd) (λ y. f y .fwd) (λ y. g y .fwd) x; bwd = condition-sub e Q Any Any-closed (λ y. p y .bwd) (λ y. f y .bwd) (λ y. g y .bwd) x }
 
-in-while : {p p′ f f′ : Form} (e : Edition) (Q : Prog) → ImpF e Q p p′ → ImpF e Q f f′ → ImpF e Q (while p f) (while p′ f′)
+pub in-while : {p p′ f f′ : Form} (e : Edition) (Q : Prog) → ImpF e Q p p′ → ImpF e Q f f′ → ImpF e Q (while p f) (while p′ f′)
 in-while e Q p f x = record { fwd = while-sub e Q Less Less-closed (λ y. p y .fwd) (λ y. f y .fwd) x; bwd = while-sub e Q Any Any-closed (λ y. p y .bwd) (λ y. f y .bwd) x }
 
-same : {f : Form} (e : Edition) (Q : Prog) → ImpF e Q f f
+pub same : {f : Form} (e : Edition) (Q : Prog) → ImpF e Q f f
 same e Q x = imp-refl e Q _
