@@ -141,11 +141,11 @@ step-same m k k′ f = go (m .steps) refl
     go zero q = refl
     go (suc S) q = f (record { steps = S; names = m .names; cells = m .cells }) (sym q)
 
-pub fuel : (n n′ : ℕ) (e : Edition) (P : Prog) (f : Form) (x : Obj) (m : Meter) → m .steps ≤ n → m .steps ≤ n′ → apply n e P f x m ≡ apply n′ e P f x m
-fuel zero zero e P f x m h k = refl
-fuel zero (suc n′) e P f x m h k = sym (dry (suc n′) e P f x m (omega arith))
-fuel (suc n) zero e P f x m h k = dry (suc n) e P f x m (omega arith)
-fuel (suc n) (suc n′) e P f x m h k =
+pub same-bound : (n n′ : ℕ) (e : Edition) (P : Prog) (f : Form) (x : Obj) (m : Meter) → m .steps ≤ n → m .steps ≤ n′ → apply n e P f x m ≡ apply n′ e P f x m
+same-bound zero zero e P f x m h k = refl
+same-bound zero (suc n′) e P f x m h k = sym (dry (suc n′) e P f x m (omega arith))
+same-bound (suc n) zero e P f x m h k = dry (suc n) e P f x m (omega arith)
+same-bound (suc n) (suc n′) e P f x m h k =
     step-same m (λ m₁. inside (apply n e P) n e P f x m₁) (λ m₁. inside (apply n′ e P) n′ e P f x m₁) (λ m₁ t.
-    inside-same e P (apply n e P) (apply n′ e P) (λ f₁ x₁ m₂. sound e P n f₁ x₁ m₂) (m₁ .steps) (λ f₁ x₁ m₂ l. fuel n n′ e P f₁ x₁ m₂ (omega arith) (omega arith)) (dry n e P)
+    inside-same e P (apply n e P) (apply n′ e P) (λ f₁ x₁ m₂. sound e P n f₁ x₁ m₂) (m₁ .steps) (λ f₁ x₁ m₂ l. same-bound n n′ e P f₁ x₁ m₂ (omega arith) (omega arith)) (dry n e P)
     n n′ f x m₁ (omega arith) (omega arith) (omega arith))
