@@ -1,4 +1,4 @@
--- Any two fuels that are at least the steps left give the same, whatever the end.
+-- One application does the same under two bounds, where the applications inside it do and both are at least the steps left.
 use Prim.Native.Nat.{ℕ, zero, suc, _+_, _*_, _-_, _≤_, _<_}
 use mathlib.Core.Path.{_≡_, refl, sym, subst, subst₂, _∙_, ap}
 use mathlib.Core.Bool.{Bool, true, false}
@@ -65,7 +65,7 @@ module _ (e : Edition) (P : Prog) (u v : Apply) (g : Good e P u) (N : ℕ) (s : 
       (λ z m₁ t. cells-less 2 m₁ (λ m₂. u f (pair x z) m₂) (λ m₂. v f (pair x z) m₂) (λ m₂ t₂. s f (pair x z) m₂ (omega arith)))
       ∙ ap (λ (o : Out Obj). bind o (λ z m₁. askCells 2 m₁ (λ m₂. v f (pair x z) m₂))) (fold-same f y ys m h)
 
-  -- while, under two fuels
+  -- while, under two bounds
   test-same : (t : Truth) (a b c a′ b′ : Out Obj) → a ≡ a′ → b ≡ b′ → Path (Out Obj) (elim t as (λ (t : Truth). Out Obj) [ isT ↦ a | isF ↦ b | neither ↦ c ]) (elim t as (λ (t : Truth). Out Obj) [ isT ↦ a′ | isF ↦ b′ | neither ↦ c ])
   test-same isT a b c a′ b′ h k = h
   test-same isF a b c a′ b′ h k = k
@@ -118,7 +118,7 @@ module _ (e : Edition) (P : Prog) (u v : Apply) (g : Good e P u) (N : ℕ) (s : 
   applyAll-same f (symbol a) m l = refl
   applyAll-same f (seq xs) m l = ap (λ (o : Out Objs). bind o (λ ys m₁. askCells (lengthOf ys) m₁ (λ m₂. value (seq ys) m₂))) (each-same f xs m l)
 
-  inside-same : (i j : ℕ) (f : Form) (x : Obj) (m : Meter) → m .steps ≤ N → m .steps ≤ i → m .steps ≤ j → inside u i e P f x m ≡ inside v j e P f x m
+  pub inside-same : (i j : ℕ) (f : Form) (x : Obj) (m : Meter) → m .steps ≤ N → m .steps ≤ i → m .steps ≤ j → inside u i e P f x m ≡ inside v j e P f x m
   inside-same i j (word w) x m h k l = refl
   inside-same i j (name w) x m h k l = lookup-same (lookup w P) x m h
   inside-same i j (chain fs) x m h k l = parts-same fs x m h
@@ -130,22 +130,14 @@ module _ (e : Edition) (P : Prog) (u v : Apply) (g : Good e P u) (N : ℕ) (s : 
   inside-same i j (condition p f q) x m h k l = condition-same p f q x m h
   inside-same i j (while p f) x m h k l = loop-same i j p f x m h k l
 
-dry : (n : ℕ) (e : Edition) (P : Prog) (f : Form) (x : Obj) (m : Meter) → m .steps ≡ 0 → apply n e P f x m ≡ spent noStep m
+-- without a step left nothing is applied
+pub dry : (n : ℕ) (e : Edition) (P : Prog) (f : Form) (x : Obj) (m : Meter) → m .steps ≡ 0 → apply n e P f x m ≡ spent noStep m
 dry zero e P f x m h = refl
 dry (suc n) e P f x m h = rw (h, askStep) (ap (λ (k : ℕ). spent noStep (record { steps = k; names = m .names; cells = m .cells })) h)
 
-step-same : (m : Meter) (k k′ : Meter → Out Obj) → ((m₁ : Meter) → suc (m₁ .steps) ≡ m .steps → k m₁ ≡ k′ m₁) → askStep m k ≡ askStep m k′
+pub step-same : (m : Meter) (k k′ : Meter → Out Obj) → ((m₁ : Meter) → suc (m₁ .steps) ≡ m .steps → k m₁ ≡ k′ m₁) → askStep m k ≡ askStep m k′
 step-same m k k′ f = go (m .steps) refl
   where
     go : (S : ℕ) → m .steps ≡ S → Path (Out Obj) (elim S as (λ (S : ℕ). Out Obj) [ zero ↦ spent noStep m | suc S ↦ k (record { steps = S; names = m .names; cells = m .cells }) ]) (elim S as (λ (S : ℕ). Out Obj) [ zero ↦ spent noStep m | suc S ↦ k′ (record { steps = S; names = m .names; cells = m .cells }) ])
     go zero q = refl
     go (suc S) q = f (record { steps = S; names = m .names; cells = m .cells }) (sym q)
-
-pub same-bound : (n n′ : ℕ) (e : Edition) (P : Prog) (f : Form) (x : Obj) (m : Meter) → m .steps ≤ n → m .steps ≤ n′ → apply n e P f x m ≡ apply n′ e P f x m
-same-bound zero zero e P f x m h k = refl
-same-bound zero (suc n′) e P f x m h k = sym (dry (suc n′) e P f x m (omega arith))
-same-bound (suc n) zero e P f x m h k = dry (suc n) e P f x m (omega arith)
-same-bound (suc n) (suc n′) e P f x m h k =
-    step-same m (λ m₁. inside (apply n e P) n e P f x m₁) (λ m₁. inside (apply n′ e P) n′ e P f x m₁) (λ m₁ t.
-    inside-same e P (apply n e P) (apply n′ e P) (λ f₁ x₁ m₂. sound e P n f₁ x₁ m₂) (m₁ .steps) (λ f₁ x₁ m₂ l. same-bound n n′ e P f₁ x₁ m₂ (omega arith) (omega arith)) (dry n e P)
-    n n′ f x m₁ (omega arith) (omega arith) (omega arith))
