@@ -37,6 +37,22 @@ cells-less {A} n m k k′ f = go (leb n (m .cells))
     go true = f m₁ (omega arith)
     go false = refl
 
+decide-same : (b : Obj) (m : Meter) (onT onF onT′ onF′ : Meter → Out Obj) → onT m ≡ onT′ m → onF m ≡ onF′ m → decide b m onT onF ≡ decide b m onT′ onF′
+decide-same b m onT onF onT′ onF′ h k = go (truthOf b) refl
+  where
+    go : (t : Truth) → truthOf b ≡ t → decide b m onT onF ≡ decide b m onT′ onF′
+    go isT t = rw (t, decide) h
+    go isF t = rw (t, decide) k
+    go neither t = rw (t, decide) refl
+
+-- what while does where its test came to T, and what it does with what the test came to
+abbrev again : Apply → ℕ → Form → Form → Obj → Meter → Out Obj
+again ap j p f x m = bind (ap f x m) (λ y m₁. whileBy ap j p f y m₁)
+
+abbrev tested : Apply → ℕ → Form → Form → Obj → Obj → Meter → Out Obj
+tested ap j p f x b m = decide b m (again ap j p f x) (λ m₁. value x m₁)
+
+-- two ways to apply: the first one's results end, both do the same up to N steps, and the first does nothing without a step
 module _ (e : Edition) (P : Prog) (u v : Apply) (g : Good e P u) (N : ℕ) (s : (f : Form) (x : Obj) (m : Meter) → m .steps ≤ N → u f x m ≡ v f x m) (z : (f : Form) (x : Obj) (m : Meter) → m .steps ≡ 0 → u f x m ≡ spent noStep m) where
   parts-same : (fs : Forms) (x : Obj) (m : Meter) → m .steps ≤ N → chainBy u fs x m ≡ chainBy v fs x m
   parts-same stop x m h = refl
@@ -66,35 +82,23 @@ module _ (e : Edition) (P : Prog) (u v : Apply) (g : Good e P u) (N : ℕ) (s : 
       ∙ ap (λ (o : Out Obj). bind o (λ z m₁. askCells 2 m₁ (λ m₂. v f (pair x z) m₂))) (fold-same f y ys m h)
 
   -- while, under two bounds
-  test-same : (t : Truth) (a b c a′ b′ : Out Obj) → a ≡ a′ → b ≡ b′ → Path (Out Obj) (elim t as (λ (t : Truth). Out Obj) [ isT ↦ a | isF ↦ b | neither ↦ c ]) (elim t as (λ (t : Truth). Out Obj) [ isT ↦ a′ | isF ↦ b′ | neither ↦ c ])
-  test-same isT a b c a′ b′ h k = h
-  test-same isF a b c a′ b′ h k = k
-  test-same neither a b c a′ b′ h k = refl
-
   loop-same : (i j : ℕ) (p f : Form) (x : Obj) (m : Meter) → m .steps ≤ N → m .steps ≤ i → m .steps ≤ j → whileBy u i p f x m ≡ whileBy v j p f x m
   loop-same zero zero p f x m h k l = refl
-  loop-same zero (suc j) p f x m h k l =
-      sym (ap (λ (o : Out Obj). bind o (λ b m₁. elim (truthOf b) as (λ (t : Truth). Out Obj) [ isT ↦ bind (v f x m₁) (λ y m₂. whileBy v j p f y m₂) | isF ↦ value x m₁ | neither ↦ fallen m₁ ])) (sym (s p x m h) ∙ z p x m (omega arith)))
-  loop-same (suc i) zero p f x m h k l =
-      ap (λ (o : Out Obj). bind o (λ b m₁. elim (truthOf b) as (λ (t : Truth). Out Obj) [ isT ↦ bind (u f x m₁) (λ y m₂. whileBy u i p f y m₂) | isF ↦ value x m₁ | neither ↦ fallen m₁ ])) (z p x m (omega arith))
+  loop-same zero (suc j) p f x m h k l = sym (ap (λ (o : Out Obj). bind o (tested v j p f x)) (sym (s p x m h) ∙ z p x m (omega arith)))
+  loop-same (suc i) zero p f x m h k l = ap (λ (o : Out Obj). bind o (tested u i p f x)) (z p x m (omega arith))
   loop-same (suc i) (suc j) p f x m h k l =
-      bind-fewer
-      (λ b m₁. elim (truthOf b) as (λ (t : Truth). Out Obj) [ isT ↦ bind (u f x m₁) (λ y m₂. whileBy u i p f y m₂) | isF ↦ value x m₁ | neither ↦ fallen m₁ ])
-      (λ b m₁. elim (truthOf b) as (λ (t : Truth). Out Obj) [ isT ↦ bind (v f x m₁) (λ y m₂. whileBy v j p f y m₂) | isF ↦ value x m₁ | neither ↦ fallen m₁ ])
-      (g p x m)
-      (λ b m₁ t. test-same (truthOf b) _ _ (fallen m₁) _ _
+      bind-fewer (tested u i p f x) (tested v j p f x) (g p x m)
+      (λ b m₁ t. decide-same b m₁ (again u i p f x) (λ m₂. value x m₂) (again v j p f x) (λ m₂. value x m₂)
       (bind-less (λ y m₂. whileBy u i p f y m₂) (λ y m₂. whileBy v j p f y m₂) (g f x m₁) (λ y m₂ t₂. loop-same i j p f y m₂ (omega arith) (omega arith) (omega arith))
       ∙ ap (λ (o : Out Obj). bind o (λ y m₂. whileBy v j p f y m₂)) (s f x m₁ (omega arith)))
       refl)
-      ∙ ap (λ (o : Out Obj). bind o (λ b m₁. elim (truthOf b) as (λ (t : Truth). Out Obj) [ isT ↦ bind (v f x m₁) (λ y m₂. whileBy v j p f y m₂) | isF ↦ value x m₁ | neither ↦ fallen m₁ ])) (s p x m h)
+      ∙ ap (λ (o : Out Obj). bind o (tested v j p f x)) (s p x m h)
 
-  condition-same : (p f h : Form) (x : Obj) (m : Meter) → m .steps ≤ N → Path (Out Obj) (bind (u p x m) (λ b m₁. elim (truthOf b) as (λ (t : Truth). Out Obj) [ isT ↦ u f x m₁ | isF ↦ u h x m₁ | neither ↦ fallen m₁ ])) (bind (v p x m) (λ b m₁. elim (truthOf b) as (λ (t : Truth). Out Obj) [ isT ↦ v f x m₁ | isF ↦ v h x m₁ | neither ↦ fallen m₁ ]))
-  condition-same p f h x m l =
-      bind-less
-      (λ b m₁. elim (truthOf b) as (λ (t : Truth). Out Obj) [ isT ↦ u f x m₁ | isF ↦ u h x m₁ | neither ↦ fallen m₁ ])
-      (λ b m₁. elim (truthOf b) as (λ (t : Truth). Out Obj) [ isT ↦ v f x m₁ | isF ↦ v h x m₁ | neither ↦ fallen m₁ ])
-      (g p x m) (λ b m₁ t. test-same (truthOf b) _ _ (fallen m₁) _ _ (s f x m₁ (omega arith)) (s h x m₁ (omega arith)))
-      ∙ ap (λ (o : Out Obj). bind o (λ b m₁. elim (truthOf b) as (λ (t : Truth). Out Obj) [ isT ↦ v f x m₁ | isF ↦ v h x m₁ | neither ↦ fallen m₁ ])) (s p x m l)
+  condition-same : (p f q : Form) (x : Obj) (m : Meter) → m .steps ≤ N → inside u 0 e P (condition p f q) x m ≡ inside v 0 e P (condition p f q) x m
+  condition-same p f q x m l =
+      bind-less (λ b m₁. decide b m₁ (u f x) (u q x)) (λ b m₁. decide b m₁ (v f x) (v q x)) (g p x m)
+      (λ b m₁ t. decide-same b m₁ (u f x) (u q x) (v f x) (v q x) (s f x m₁ (omega arith)) (s q x m₁ (omega arith)))
+      ∙ ap (λ (o : Out Obj). bind o (λ b m₁. decide b m₁ (v f x) (v q x))) (s p x m l)
 
   name-same : (b : Form) (x : Obj) (m : Meter) → m .steps ≤ N → askName m (λ m₁. u b x m₁) ≡ askName m (λ m₁. v b x m₁)
   name-same b x m l = go (m .names)
@@ -116,13 +120,13 @@ module _ (e : Edition) (P : Prog) (u v : Apply) (g : Good e P u) (N : ℕ) (s : 
   applyAll-same : (f : Form) (x : Obj) (m : Meter) → m .steps ≤ N → applyAllOn u f x m ≡ applyAllOn v f x m
   applyAll-same f (int a) m l = refl
   applyAll-same f (symbol a) m l = refl
-  applyAll-same f (seq xs) m l = ap (λ (o : Out Objs). bind o (λ ys m₁. askCells (lengthOf ys) m₁ (λ m₂. value (seq ys) m₂))) (each-same f xs m l)
+  applyAll-same f (seq xs) m l = ap (λ (o : Out Objs). bind o gathered) (each-same f xs m l)
 
   pub inside-same : (i j : ℕ) (f : Form) (x : Obj) (m : Meter) → m .steps ≤ N → m .steps ≤ i → m .steps ≤ j → inside u i e P f x m ≡ inside v j e P f x m
   inside-same i j (word w) x m h k l = refl
   inside-same i j (name w) x m h k l = lookup-same (lookup w P) x m h
   inside-same i j (chain fs) x m h k l = parts-same fs x m h
-  inside-same i j (construct fs) x m h k l = ap (λ (o : Out Objs). bind o (λ ys m₁. askCells (lengthOf ys) m₁ (λ m₂. value (seq ys) m₂))) (items-same fs x m h)
+  inside-same i j (construct fs) x m h k l = ap (λ (o : Out Objs). bind o gathered) (items-same fs x m h)
   inside-same i j (constant c) x m h k l = refl
   inside-same i j (insert f) x m h k l = insert-same f x m h
   inside-same i j (applyAll f) x m h k l = applyAll-same f x m h

@@ -42,29 +42,41 @@ module _ (e : Edition) (P : Prog) where
     cells : b + m .cells ≡ b₁ + m₁ .cells
     names : m .names ≡ m₁ .names
 
+  shifted : {a b a₁ b₁ : ℕ} {j : Job} {r : Result} {m m₁ m₂ : Meter} → Before a b a₁ b₁ m m₁ → Spends a₁ b₁ j r m₁ m₂ → Spends a b j r m m₂
+  shifted t E = record {
+    d = E .d;
+    s = E .s;
+    c = E .c;
+    ends = E .ends;
+    fits = omega (arith, t .names, E .fits);
+    steps = t .steps ∙ E .steps;
+    cells = t .cells ∙ E .cells;
+    names = t .names ∙ E .names;
+  }
+
   shift : {a b a₁ b₁ : ℕ} {j : Job} {m m₁ : Meter} {o : Out Obj} → Before a b a₁ b₁ m m₁ → Explains a₁ b₁ j m₁ o → Explains a b j m o
-  shift t (ex-object E) = ex-object (record { d = E .d; s = E .s; c = E .c; ends = E .ends; fits = omega (arith, t .names, E .fits); steps = t .steps ∙ E .steps; cells = t .cells ∙ E .cells; names = t .names ∙ E .names })
-  shift t (ex-bottom E) = ex-bottom (record { d = E .d; s = E .s; c = E .c; ends = E .ends; fits = omega (arith, t .names, E .fits); steps = t .steps ∙ E .steps; cells = t .cells ∙ E .cells; names = t .names ∙ E .names })
+  shift t (ex-object E) = ex-object (shifted t E)
+  shift t (ex-bottom E) = ex-bottom (shifted t E)
   shift t ex-out = ex-out
 
-  step-sound : {a b : ℕ} {j : Job} (m : Meter) (k : Meter → Out Obj) → ((m₁ : Meter) → m₁ .names ≡ m .names → Explains (suc a) b j m₁ (k m₁)) → Explains a b j m (askStep m k)
+  step-sound : {a b : ℕ} {j : Job} (m : Meter) (k : Meter → Out Obj) → ((m₁ : Meter) → Explains (suc a) b j m₁ (k m₁)) → Explains a b j m (askStep m k)
   step-sound {a} {b} {j} m k f = go (m .steps) refl
     where
       go : (S : ℕ) → m .steps ≡ S → Explains a b j m (askStep m k)
       go zero h = rw h ex-out
       go (suc S) h =
           let m₁ : Meter = record { steps = S; names = m .names; cells = m .cells } in
-          rw h (shift (record { steps = omega arith; cells = refl; names = refl }) (f m₁ refl))
+          rw h (shift (record { steps = omega arith; cells = refl; names = refl }) (f m₁))
 
-  steps-sound : {a b : ℕ} {j : Job} (n : ℕ) (m : Meter) (k : Meter → Out Obj) → ((m₁ : Meter) → m₁ .names ≡ m .names → Explains (a + n) b j m₁ (k m₁)) → Explains a b j m (askSteps n m k)
+  steps-sound : {a b : ℕ} {j : Job} (n : ℕ) (m : Meter) (k : Meter → Out Obj) → ((m₁ : Meter) → Explains (a + n) b j m₁ (k m₁)) → Explains a b j m (askSteps n m k)
   steps-sound {a} {b} {j} n m k f = go (leb n (m .steps)) refl
     where
       go : (t : Bool) → leb n (m .steps) ≡ t → Explains a b j m (askSteps n m k)
       go false h = rw (h, askSteps) ex-out
       go true h =
           let m₁ : Meter = record { steps = m .steps - n; names = m .names; cells = m .cells } in
-          let l : n ≤ m .steps = leb→le n (m .steps) (subst T (sym h) tt) in
-          rw (h, askSteps) (shift (record { steps = omega arith; cells = refl; names = refl }) (f m₁ refl))
+          let l : n ≤ m .steps = leb-true n (m .steps) h in
+          rw (h, askSteps) (shift (record { steps = omega arith; cells = refl; names = refl }) (f m₁))
 
   cells-sound : {a b : ℕ} {j : Job} (n : ℕ) (m : Meter) (k : Meter → Out Obj) → ((m₁ : Meter) → m₁ .names ≡ m .names → Explains a (b + n) j m₁ (k m₁)) → Explains a b j m (askCells n m k)
   cells-sound {a} {b} {j} n m k f = go (leb n (m .cells)) refl
@@ -73,7 +85,7 @@ module _ (e : Edition) (P : Prog) where
       go false h = rw (h, askCells) ex-out
       go true h =
           let m₁ : Meter = record { steps = m .steps; names = m .names; cells = m .cells - n } in
-          let l : n ≤ m .cells = leb→le n (m .cells) (subst T (sym h) tt) in
+          let l : n ≤ m .cells = leb-true n (m .cells) h in
           rw (h, askCells) (shift (record { steps = refl; cells = omega arith; names = refl }) (f m₁ refl))
 
   -- the same spending, for another job
@@ -85,10 +97,28 @@ module _ (e : Edition) (P : Prog) where
 
   -- two, one after the other
   both : {j j₁ j₂ : Job} {r₁ r₂ r : Result} {m m₁ m₂ : Meter} (E : Spends 0 0 j₁ r₁ m m₁) (F : Spends 0 0 j₂ r₂ m₁ m₂) → Ends e P (max (E .d) (F .d)) j r (E .s + F .s) (E .c + F .c) → Spends 0 0 j r m m₂
-  both E F D = record { d = max (E .d) (F .d); s = E .s + F .s; c = E .c + F .c; ends = D; fits = omega (arith, E .fits, F .fits, E .names); steps = omega (arith, E .steps, F .steps); cells = omega (arith, E .cells, F .cells); names = E .names ∙ F .names }
+  both E F D = record {
+    d = max (E .d) (F .d);
+    s = E .s + F .s;
+    c = E .c + F .c;
+    ends = D;
+    fits = omega (arith, E .fits, F .fits, E .names);
+    steps = omega (arith, E .steps, F .steps);
+    cells = omega (arith, E .cells, F .cells);
+    names = E .names ∙ F .names;
+  }
 
   both⁺ : {j j₁ j₂ : Job} {r₁ r₂ r : Result} {m m₁ m₂ : Meter} (E : Spends 0 0 j₁ r₁ m m₁) (F : Spends 0 0 j₂ r₂ m₁ m₂) → Ends e P (max (E .d) (F .d)) j r (suc (E .s + F .s)) (E .c + F .c) → Spends 1 0 j r m m₂
-  both⁺ E F D = record { d = max (E .d) (F .d); s = suc (E .s + F .s); c = E .c + F .c; ends = D; fits = omega (arith, E .fits, F .fits, E .names); steps = omega (arith, E .steps, F .steps); cells = omega (arith, E .cells, F .cells); names = E .names ∙ F .names }
+  both⁺ E F D = record {
+    d = max (E .d) (F .d);
+    s = suc (E .s + F .s);
+    c = E .c + F .c;
+    ends = D;
+    fits = omega (arith, E .fits, F .fits, E .names);
+    steps = omega (arith, E .steps, F .steps);
+    cells = omega (arith, E .cells, F .cells);
+    names = E .names ∙ F .names;
+  }
 
   -- one job inside another, whose step is paid
   wrap : {j j₁ : Job} {m : Meter} {o : Out Obj} → ((r : Result) (d s c : ℕ) → Ends e P d j₁ r s c → Ends e P d j r (suc s) c) → Explains 0 0 j₁ m o → Explains 1 0 j m o
@@ -150,31 +180,31 @@ module _ (e : Edition) (P : Prog) where
     rest-items E (ex-bottoms F) = ex-bottoms (both E F (items-late (E .ends) (F .ends)))
     rest-items E ex-out-all = ex-out-all
 
-    first-item : {f : Form} {fs : Forms} {x : Obj} {m : Meter} {o : Out Obj} (k : Meter → Out Objs) → Explains 0 0 (just f x) m o → ((m₁ : Meter) → m₁ .names ≡ m .names → ExplainsAll (items fs x) m₁ (k m₁)) → ExplainsAll (items (f & fs) x) m (bind o (λ y m₁. bind (k m₁) (λ ys m₂. value (y :: ys) m₂)))
-    first-item k (ex-object {m′ = m₁} E) h = rest-items E (h m₁ (sym (E .names)))
+    first-item : {f : Form} {fs : Forms} {x : Obj} {m : Meter} {o : Out Obj} (k : Meter → Out Objs) → Explains 0 0 (just f x) m o → ((m₁ : Meter) → ExplainsAll (items fs x) m₁ (k m₁)) → ExplainsAll (items (f & fs) x) m (bind o (λ y m₁. bind (k m₁) (λ ys m₂. value (y :: ys) m₂)))
+    first-item k (ex-object {m′ = m₁} E) h = rest-items E (h m₁)
     first-item k (ex-bottom E) h = ex-bottoms (stop-at E (items-bottom (E .ends)))
     first-item k ex-out h = ex-out-all
 
     pub items-sound : (fs : Forms) (x : Obj) (m : Meter) → ExplainsAll (items fs x) m (constructBy ap fs x m)
     items-sound stop x m = ex-objects (at-once items-stop)
-    items-sound (f & fs) x m = first-item (λ m₁. constructBy ap fs x m₁) (g f x m) (λ m₁ h. items-sound fs x m₁)
+    items-sound (f & fs) x m = first-item (λ m₁. constructBy ap fs x m₁) (g f x m) (λ m₁. items-sound fs x m₁)
 
     rest-each : {f : Form} {x y : Obj} {xs : Objs} {m m₁ : Meter} {o : Out Objs} → Spends 0 0 (just f x) (object y) m m₁ → ExplainsAll (each f xs) m₁ o → ExplainsAll (each f (x :: xs)) m (bind o (λ ys m₂. value (y :: ys) m₂))
     rest-each E (ex-objects F) = ex-objects (both E F (each-go (E .ends) (F .ends)))
     rest-each E (ex-bottoms F) = ex-bottoms (both E F (each-late (E .ends) (F .ends)))
     rest-each E ex-out-all = ex-out-all
 
-    first-each : {f : Form} {x : Obj} {xs : Objs} {m : Meter} {o : Out Obj} (k : Meter → Out Objs) → Explains 0 0 (just f x) m o → ((m₁ : Meter) → m₁ .names ≡ m .names → ExplainsAll (each f xs) m₁ (k m₁)) → ExplainsAll (each f (x :: xs)) m (bind o (λ y m₁. bind (k m₁) (λ ys m₂. value (y :: ys) m₂)))
-    first-each k (ex-object {m′ = m₁} E) h = rest-each E (h m₁ (sym (E .names)))
+    first-each : {f : Form} {x : Obj} {xs : Objs} {m : Meter} {o : Out Obj} (k : Meter → Out Objs) → Explains 0 0 (just f x) m o → ((m₁ : Meter) → ExplainsAll (each f xs) m₁ (k m₁)) → ExplainsAll (each f (x :: xs)) m (bind o (λ y m₁. bind (k m₁) (λ ys m₂. value (y :: ys) m₂)))
+    first-each k (ex-object {m′ = m₁} E) h = rest-each E (h m₁)
     first-each k (ex-bottom E) h = ex-bottoms (stop-at E (each-bottom (E .ends)))
     first-each k ex-out h = ex-out-all
 
     pub each-sound : (f : Form) (xs : Objs) (m : Meter) → ExplainsAll (each f xs) m (eachBy ap f xs m)
     each-sound f nil m = ex-objects (at-once each-nil)
-    each-sound f (x :: xs) m = first-each (λ m₁. eachBy ap f xs m₁) (g f x m) (λ m₁ h. each-sound f xs m₁)
+    each-sound f (x :: xs) m = first-each (λ m₁. eachBy ap f xs m₁) (g f x m) (λ m₁. each-sound f xs m₁)
 
     -- n cells for a finished sequence
-    shut : {j j₁ : Job} {m : Meter} {o : Out Objs} → ((ys : Objs) (d s c : ℕ) → Ends e P d j₁ (object (seq ys)) s c → Ends e P d j (object (seq ys)) (suc s) (c + lengthOf ys)) → ((d s c : ℕ) → Ends e P d j₁ bottom s c → Ends e P d j bottom (suc s) c) → ExplainsAll j₁ m o → Explains 1 0 j m (bind o (λ ys m₁. askCells (lengthOf ys) m₁ (λ m₂. value (seq ys) m₂)))
+    shut : {j j₁ : Job} {m : Meter} {o : Out Objs} → ((ys : Objs) (d s c : ℕ) → Ends e P d j₁ (object (seq ys)) s c → Ends e P d j (object (seq ys)) (suc s) (c + lengthOf ys)) → ((d s c : ℕ) → Ends e P d j₁ bottom s c → Ends e P d j bottom (suc s) c) → ExplainsAll j₁ m o → Explains 1 0 j m (bind o gathered)
     shut k l (ex-objects {ys = ys} {m′ = m₁} E) =
         shift (from {a = 1} E) (cells-sound (lengthOf ys) m₁ (λ m₂. value (seq ys) m₂) (λ m₂ h. ex-object (at-cost (recount e P refl (omega arith) refl (k ys _ _ _ (E .ends))) (omega (arith, E .fits, E .names)))))
     shut k l (ex-bottoms E) = ex-bottom (stop-at⁺ E (l _ _ _ (E .ends)))
@@ -192,29 +222,29 @@ module _ (e : Edition) (P : Prog) where
     fold-sound f x (y :: ys) m = after-fold (fold-sound f y ys m)
 
     -- the branch that a truth value takes
-    by-condition : {p f h : Form} {x b : Obj} {m m₁ : Meter} → Spends 0 0 (just p x) (object b) m m₁ → (t : Truth) → truthOf b ≡ t → Explains 1 0 (just (condition p f h) x) m (elim t as (λ (t : Truth). Out Obj) [ isT ↦ ap f x m₁ | isF ↦ ap h x m₁ | neither ↦ fallen m₁ ])
-    by-condition {f = f} {x = x} {m₁ = m₁} E isT t = next⁺ E (λ r d s c D. condition-T (E .ends) t D) (g f x m₁)
-    by-condition {h = h} {x = x} {m₁ = m₁} E isF t = next⁺ E (λ r d s c D. condition-F (E .ends) t D) (g h x m₁)
-    by-condition E neither t = ex-bottom (stop-at⁺ E (condition-no (E .ends) t))
+    by-condition : {p f h : Form} {x b : Obj} {m m₁ : Meter} → Spends 0 0 (just p x) (object b) m m₁ → (t : Truth) → truthOf b ≡ t → Explains 1 0 (just (condition p f h) x) m (decide b m₁ (ap f x) (ap h x))
+    by-condition {f = f} {x = x} {m₁ = m₁} E isT t = rw (t, decide) (next⁺ E (λ r d s c D. condition-T (E .ends) t D) (g f x m₁))
+    by-condition {h = h} {x = x} {m₁ = m₁} E isF t = rw (t, decide) (next⁺ E (λ r d s c D. condition-F (E .ends) t D) (g h x m₁))
+    by-condition E neither t = rw (t, decide) (ex-bottom (stop-at⁺ E (condition-no (E .ends) t)))
 
-    after-condition : {p f h : Form} {x : Obj} {m : Meter} {o : Out Obj} → Explains 0 0 (just p x) m o → Explains 1 0 (just (condition p f h) x) m (bind o (λ b m₁. elim (truthOf b) as (λ (t : Truth). Out Obj) [ isT ↦ ap f x m₁ | isF ↦ ap h x m₁ | neither ↦ fallen m₁ ]))
+    after-condition : {p f h : Form} {x : Obj} {m : Meter} {o : Out Obj} → Explains 0 0 (just p x) m o → Explains 1 0 (just (condition p f h) x) m (bind o (λ b m₁. decide b m₁ (ap f x) (ap h x)))
     after-condition (ex-object {v = b} E) = by-condition E (truthOf b) refl
     after-condition (ex-bottom E) = ex-bottom (stop-at⁺ E (condition-bottom (E .ends)))
     after-condition ex-out = ex-out
 
     -- a round of while
-    after-body : {p f : Form} {x b : Obj} {m m₁ : Meter} {o : Out Obj} (k : Obj → Meter → Out Obj) → Spends 0 0 (just p x) (object b) m m₁ → truthOf b ≡ isT → ((y : Obj) (m₂ : Meter) → m₂ .names ≡ m₁ .names → Explains 0 0 (loop p f y) m₂ (k y m₂)) → Explains 0 0 (just f x) m₁ o → Explains 0 0 (loop p f x) m (bind o (λ y m₂. k y m₂))
+    after-body : {p f : Form} {x b : Obj} {m m₁ : Meter} {o : Out Obj} (k : Obj → Meter → Out Obj) → Spends 0 0 (just p x) (object b) m m₁ → truthOf b ≡ isT → ((y : Obj) (m₂ : Meter) → Explains 0 0 (loop p f y) m₂ (k y m₂)) → Explains 0 0 (just f x) m₁ o → Explains 0 0 (loop p f x) m (bind o k)
     after-body k E t h (ex-object {v = y} {m′ = m₂} F) =
-        shift (from₂ E F) (lift (max (E .d) (F .d)) (E .s + F .s) (E .c + F .c) (omega (arith, E .fits, F .fits, E .names, F .names)) (λ r d s c D. recount e P (omega arith) (omega arith) (omega arith) (loop-go (E .ends) t (F .ends) D)) (h y m₂ (sym (F .names))))
+        shift (from₂ E F) (lift (max (E .d) (F .d)) (E .s + F .s) (E .c + F .c) (omega (arith, E .fits, F .fits, E .names, F .names)) (λ r d s c D. recount e P (omega arith) (omega arith) (omega arith) (loop-go (E .ends) t (F .ends) D)) (h y m₂))
     after-body k E t h (ex-bottom F) = ex-bottom (both E F (loop-fell (E .ends) t (F .ends)))
     after-body k E t h ex-out = ex-out
 
-    by-while : {p f : Form} {x b : Obj} {m m₁ : Meter} (k : Obj → Meter → Out Obj) → ((y : Obj) (m₂ : Meter) → Explains 0 0 (loop p f y) m₂ (k y m₂)) → Spends 0 0 (just p x) (object b) m m₁ → (t : Truth) → truthOf b ≡ t → Explains 0 0 (loop p f x) m (elim t as (λ (t : Truth). Out Obj) [ isT ↦ bind (ap f x m₁) (λ y m₂. k y m₂) | isF ↦ value x m₁ | neither ↦ fallen m₁ ])
-    by-while {f = f} {x = x} {m₁ = m₁} k h E isT t = after-body k E t (λ y m₂ u. h y m₂) (g f x m₁)
-    by-while k h E isF t = ex-object (stop-at E (loop-F (E .ends) t))
-    by-while k h E neither t = ex-bottom (stop-at E (loop-no (E .ends) t))
+    by-while : {p f : Form} {x b : Obj} {m m₁ : Meter} (k : Obj → Meter → Out Obj) → ((y : Obj) (m₂ : Meter) → Explains 0 0 (loop p f y) m₂ (k y m₂)) → Spends 0 0 (just p x) (object b) m m₁ → (t : Truth) → truthOf b ≡ t → Explains 0 0 (loop p f x) m (decide b m₁ (λ m₂. bind (ap f x m₂) k) (λ m₂. value x m₂))
+    by-while {f = f} {x = x} {m₁ = m₁} k h E isT t = rw (t, decide) (after-body k E t h (g f x m₁))
+    by-while k h E isF t = rw (t, decide) (ex-object (stop-at E (loop-F (E .ends) t)))
+    by-while k h E neither t = rw (t, decide) (ex-bottom (stop-at E (loop-no (E .ends) t)))
 
-    after-test : {p f : Form} {x : Obj} {m : Meter} {o : Out Obj} (k : Obj → Meter → Out Obj) → ((y : Obj) (m₂ : Meter) → Explains 0 0 (loop p f y) m₂ (k y m₂)) → Explains 0 0 (just p x) m o → Explains 0 0 (loop p f x) m (bind o (λ b m₁. elim (truthOf b) as (λ (t : Truth). Out Obj) [ isT ↦ bind (ap f x m₁) (λ y m₂. k y m₂) | isF ↦ value x m₁ | neither ↦ fallen m₁ ]))
+    after-test : {p f : Form} {x : Obj} {m : Meter} {o : Out Obj} (k : Obj → Meter → Out Obj) → ((y : Obj) (m₂ : Meter) → Explains 0 0 (loop p f y) m₂ (k y m₂)) → Explains 0 0 (just p x) m o → Explains 0 0 (loop p f x) m (bind o (λ b m₁. decide b m₁ (λ m₂. bind (ap f x m₂) k) (λ m₂. value x m₂)))
     after-test k h (ex-object {v = b} E) = by-while k h E (truthOf b) refl
     after-test k h (ex-bottom E) = ex-bottom (stop-at E (loop-bottom (E .ends)))
     after-test k h ex-out = ex-out
@@ -225,7 +255,16 @@ module _ (e : Edition) (P : Prog) where
 
     -- a name
     spent-name : {n : ℕ} {w : List ℕ} {b : Form} {x : Obj} {r : Result} {m m′ : Meter} → lookup w P ≡ some b → m .names ≡ suc n → Spends 0 0 (just b x) r (withNames n m) m′ → Spends 1 0 (just (name w) x) r m (withNames (suc n) m′)
-    spent-name h q E = record { d = suc (E .d); s = suc (E .s); c = E .c; ends = name-in h (E .ends); fits = omega (arith, E .fits); steps = omega (arith, E .steps); cells = E .cells; names = q }
+    spent-name h q E = record {
+      d = suc (E .d);
+      s = suc (E .s);
+      c = E .c;
+      ends = name-in h (E .ends);
+      fits = omega (arith, E .fits);
+      steps = omega (arith, E .steps);
+      cells = E .cells;
+      names = q;
+    }
 
     closed : {n : ℕ} {w : List ℕ} {b : Form} {x : Obj} {m : Meter} {o : Out Obj} → lookup w P ≡ some b → m .names ≡ suc n → Explains 0 0 (just b x) (withNames n m) o → Explains 1 0 (just (name w) x) m (close (suc n) o)
     closed h q (ex-object E) = ex-object (spent-name h q E)
@@ -243,8 +282,7 @@ module _ (e : Edition) (P : Prog) where
     by-meaning : {w : Word} {x : Obj} (m : Meter) (a : WordAnswer) → meaning e w x ≡ a → Explains 1 0 (just (word w) x) m (charged a m)
     by-meaning m falls h = ex-bottom (at-once⁺ (word-bottom h))
     by-meaning m (gives s c v) h =
-        steps-sound s m (λ m₁. askCells c m₁ (λ m₂. value v m₂)) (λ m₁ u. cells-sound c m₁ (λ m₂. value v m₂) (λ m₂ u′. ex-object (at-cost (recount e P refl (omega arith) (omega arith) (word-object h)) (omega arith))))
-
+        steps-sound s m (λ m₁. askCells c m₁ (λ m₂. value v m₂)) (λ m₁. cells-sound c m₁ (λ m₂. value v m₂) (λ m₂ u′. ex-object (at-cost (recount e P refl (omega arith) (omega arith) (word-object h)) (omega arith))))
 
     insert-sound : (f : Form) (x : Obj) (m : Meter) → Explains 1 0 (just (insert f) x) m (insertOn ap f x m)
     insert-sound f (int z) m = ex-bottom (at-once⁺ insert-int)
@@ -272,4 +310,4 @@ module _ (e : Edition) (P : Prog) where
 
   pub sound : (n : ℕ) (f : Form) (x : Obj) (m : Meter) → Explains 0 0 (just f x) m (apply n e P f x m)
   sound zero f x m = ex-out
-  sound (suc n) f x m = step-sound m (λ m₁. inside (apply n e P) n e P f x m₁) (λ m₁ h. inside-sound (apply n e P) (λ f₁ x₁ m₂. sound n f₁ x₁ m₂) n f x m₁)
+  sound (suc n) f x m = step-sound m (λ m₁. inside (apply n e P) n e P f x m₁) (λ m₁. inside-sound (apply n e P) (λ f₁ x₁ m₂. sound n f₁ x₁ m₂) n f x m₁)
