@@ -2,8 +2,6 @@
 -- has fewer forms.
 use Prim.Native.Nat.{ℕ, zero, suc, _+_, _≤_, _<_}
 use mathlib.Core.Path.{_≡_, refl, sym, subst, subst₂, _∙_, ap}
-use mathlib.Core.Bool.{Bool, true, false}
-use mathlib.Core.List.{List, [], _∷_}
 use mathlib.Core.Option.{Option, some, none}
 use native.Mathlib.Omega.{arith}
 use Rattle.language.specs.Objects.{Obj, seq, Objs, lengthOf, Truth, truthOf, isT, isF, neither}
@@ -11,9 +9,9 @@ use Rattle.language.specs.Words.{Op}
 use Rattle.language.specs.Forms.{Word, op, Form, word, name, chain, construct, constant, insert, applyAll, bu, condition, while, Forms, stop, _&_, Prog, _+&_, count, formsIn, formsInAll, formsOf, constantCells, constantCellsAll, programCells}
 use Rattle.language.specs.Meanings.{Edition, meaning, pick}
 use Rattle.language.specs.Laws.{harmless, allHarmless, put, fit1, fit2, fit5, chosen, fit6, fit7, fit8, fit10, endingIn, rewrite3, rewrite4, rewrite9, rewrite11, New, formOf, closed, Law, law1, law2, law3, law4, law5, law6, law7, law8, law9, law10, law11, atRoot}
-use Rattle.language.specs.Uses.{useAt, applyLaw}
-use Rattle.theorems.proofs.Inversions.{some-inj, none-some, Made, chain-made, construct-made, constant-made, MadeCondition, condition-made, MadeSelector, selector-made, Two, two, TwoOrMore, two-or-more, Something, something, when-true, when-same, Split, split, EndsIn, ends-in}
-use Rattle.theorems.proofs.Anywhere.{chain-law, whole-law, Passes, anywhere, OneBody, this, later, Used, each-use}
+use Rattle.language.specs.Uses.{applyLaw}
+use Rattle.theorems.proofs.Inversions.{some-inj, none-some, chain-made, construct-made, constant-made, condition-made, selector-made, two, two-or-more, something, when-true, when-same, split, ends-in}
+use Rattle.theorems.proofs.Anywhere.{chain-law, whole-law, Passes, anywhere, OneBody, this, later, each-use}
 use Rattle.theorems.proofs.Implies.{ImpF, ImpP, ImpI, imp-refl, imp-trans, part-head, part-tail, in-chain, item-head, item-tail, in-construct, in-insert, in-applyAll, in-bu, in-condition, in-while, same}
 use Rattle.theorems.proofs.ChainLaws.{Choice, here, there, Picks, root1, root2, root5, root6, root7, root8, root10, alone}
 use Rattle.theorems.proofs.WholeLaws.{Firsts, f-stop, f-more, root3, root4, root9T, root9F, root11}
@@ -120,7 +118,8 @@ chose (suc j) (f & fs) g h =
     record { choice = there (w .0) (C .choice); cells = omega (arith, C .cells); fewer = omega (arith, C .fewer) }
 
 -- what a selector picks where the law finds how many are before it
-picked : (w : Word) (before : ℕ → Option ℕ) (gs : Forms) (j : ℕ) → ((e : Edition) (vs : Objs) → meaning e w (seq vs) ≡ pick (before (lengthOf vs)) vs) → before (count gs) ≡ some j → (e : Edition) (Q : Prog) → Picks e Q w gs j
+picked : (w : Word) (before : ℕ → Option ℕ) (gs : Forms) (j : ℕ) → ((e : Edition) (vs : Objs) → meaning e w (seq vs) ≡ pick (before (lengthOf vs)) vs)
+    → before (count gs) ≡ some j → (e : Edition) (Q : Prog) → Picks e Q w gs j
 picked w before gs j a h e Q vs l = a e vs ∙ ap (λ (k : ℕ). pick (before k) vs) l ∙ ap (λ (o : Option ℕ). pick o vs) h
 
 ref6 : (w : Word) (gs fs : Forms) (j : ℕ) (g : Form) → ((e : Edition) (Q : Prog) → Picks e Q w gs j) → Chose j gs g → RefP (word w & construct gs & fs) (put g fs)
@@ -141,7 +140,7 @@ fits6 fs gs h =
     let J = something (chosen (I .of) (M .of)) _ gs (I .gives) in
     let q : fs ≡ word (S .selector) & construct (M .of) & T .rest = cc in
     subst₂ RefP (sym q) (some-inj (J .gives))
-      (ref6 (S .selector) (M .of) (T .rest) (I .of) (J .of) (picked (S .selector) (S .before) (M .of) (I .of) (S .picks) (I .is)) (chose (I .of) (M .of) (J .of) (J .is)))
+    (ref6 (S .selector) (M .of) (T .rest) (I .of) (J .of) (picked (S .selector) (S .before) (M .of) (I .of) (S .picks) (I .is)) (chose (I .of) (M .of) (J .of) (J .is)))
 
 fits7 : Fits fit7
 fits7 fs gs h =
@@ -242,7 +241,8 @@ rewrites4 c c′ u =
     let q : c ≡ condition (chain (S .f & S .h & stop)) (chain (A .f & S .h & stop)) (chain (B .f & S .h & stop)) = cc in
     subst₂ RefF (sym q) (some-inj (B .gives)) (ref4 (S .f) (A .f) (B .f) (S .h))
 
-ref9 : (x : Obj) (f g c : Form) (t : Truth) → truthOf x ≡ t → elim t as (λ (t : Truth). Option Form) [ isT ↦ some f | isF ↦ some g | neither ↦ none ] ≡ some c → RefF (condition (constant x) f g) c
+ref9 : (x : Obj) (f g c : Form) (t : Truth) → truthOf x ≡ t
+    → elim t as (λ (t : Truth). Option Form) [ isT ↦ some f | isF ↦ some g | neither ↦ none ] ≡ some c → RefF (condition (constant x) f g) c
 ref9 x f g c isT h u = subst (RefF (condition (constant x) f g)) (some-inj u) (record { imp = λ e Q. root9T e Q x f g h; cells = omega arith; fewer = omega arith })
 ref9 x f g c isF h u = subst (RefF (condition (constant x) f g)) (some-inj u) (record { imp = λ e Q. root9F e Q x f g h; cells = omega arith; fewer = omega arith })
 ref9 x f g c neither h u = none-some u
@@ -268,7 +268,9 @@ rewrites11 c c′ u =
 passes : Passes RefF RefP RefI
 passes = record {
   part = λ fs K. record { imp = λ e Q. part-head fs e Q (K .imp e Q); cells = omega (arith, K .cells); fewer = omega (arith, K .fewer) };
-  joined = λ fs K. let U = put-ref _ fs in record { imp = λ e Q x. imp-trans e Q (part-head fs e Q (K .imp e Q) x) (U .imp e Q x); cells = omega (arith, K .cells, U .cells); fewer = omega (arith, K .fewer, U .fewer) };
+  joined = λ fs K.
+      let U = put-ref _ fs in
+      record { imp = λ e Q x. imp-trans e Q (part-head fs e Q (K .imp e Q) x) (U .imp e Q x); cells = omega (arith, K .cells, U .cells); fewer = omega (arith, K .fewer, U .fewer) };
   behind-part = λ f K. record { imp = λ e Q. part-tail f e Q (K .imp e Q); cells = omega (arith, K .cells); fewer = omega (arith, K .fewer) };
   in-chain = λ K. record { imp = λ e Q. in-chain e Q (K .imp e Q); cells = K .cells; fewer = omega (arith, K .fewer) };
   item = λ fs K. record { imp = λ e Q. item-head fs e Q (K .imp e Q); cells = omega (arith, K .cells); fewer = omega (arith, K .fewer) };
