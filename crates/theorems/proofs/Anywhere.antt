@@ -176,9 +176,9 @@ module _ (F : Form → Form → Type 0) (use-at : (f : Form) (l : Law) (i : ℕ)
       let rest : ℕ → Option Prog = λ i. onSome (useIn ds l i) (λ es. some (d ∷ es)) in
       either-part i (formsIn (d .body)) first rest
       (λ v. let s = something (useAt (d .body) l i) (λ n. some (withBody d (formOf n) ∷ ds)) Q v in
-        subst (OneBody F (d ∷ ds)) (some-inj (s .gives)) (this d ds (formOf (s .of)) (use-at (d .body) l i (s .of) (s .is))))
+      subst (OneBody F (d ∷ ds)) (some-inj (s .gives)) (this d ds (formOf (s .of)) (use-at (d .body) l i (s .of) (s .is))))
       (λ v. let s = something (useIn ds l (i - formsIn (d .body))) (λ es. some (d ∷ es)) Q v in
-        subst (OneBody F (d ∷ ds)) (some-inj (s .gives)) (later d (in-program ds l (i - formsIn (d .body)) (s .of) (s .is)))) u
+      subst (OneBody F (d ∷ ds)) (some-inj (s .gives)) (later d (in-program ds l (i - formsIn (d .body)) (s .of) (s .is)))) u
 
   pub each-use : (l : Law) (i : ℕ) (P Q : Prog) → applyLaw l i P ≡ some Q → Used F P Q
   each-use l i P Q u =
