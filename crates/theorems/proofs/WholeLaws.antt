@@ -5,15 +5,11 @@ use native.Mathlib.Omega.{arith}
 use Rattle.language.specs.Objects.{Obj, seq, _::_, lengthOf, truthOf, isT, isF}
 use Rattle.language.specs.Forms.{Form, chain, construct, constant, condition, Forms, stop, _&_, Prog}
 use Rattle.language.specs.Meanings.{Edition}
+use Rattle.theorems.proofs.Inversions.{Ending, none-more, one-more}
 use Rattle.theorems.proofs.Ends.{just, items, Result, object, bottom, Ends, recount, chain-in, construct-object, construct-bottom, constant-in, condition-bottom, condition-no, condition-T, condition-F, parts-stop, parts-bottom, parts-go, items-stop, items-bottom, items-late, items-go}
 use Rattle.theorems.proofs.Congruence.{Less, Any, Better, Sub}
 use Rattle.theorems.proofs.Determined.{det}
 use Rattle.theorems.proofs.Implies.{less, any, ImpF, object-bottom, same-object, T-F, T-no, F-no}
-
--- law 3: each of exactly two parts, the second h
-pub data Firsts (h : Form) : Forms → Forms → Type 0 where
-  f-stop : Firsts h stop stop
-  f-more : {a : Form} {fs bs : Forms} → Firsts h fs bs → Firsts h (chain (a & h & stop) & fs) (a & bs)
 
 module _ (e : Edition) (Q : Prog) where
   -- Law 9: a condition whose test is %T or %F.
@@ -125,20 +121,20 @@ module _ (e : Edition) (Q : Prog) where
 
   -- Law 3: `[f1.h,..,fn.h]` and `[f1,..,fn].h`.
   firsts-fwd : {h : Form} {d d₂ : ℕ} {x z : Obj} {sh ch : ℕ} {fs bs : Forms} {r : Result} {s c : ℕ} → Ends e Q d (just h x) (object z) sh ch
-      → Firsts h fs bs → Ends e Q d₂ (items fs x) r s c → Better e Q Less d₂ (items bs z) r s c
-  firsts-fwd H f-stop items-stop = less e Q items-stop (omega arith) (omega arith) (omega arith)
-  firsts-fwd H (f-more F) (items-bottom D) =
+      → Ending h fs bs → Ends e Q d₂ (items fs x) r s c → Better e Q Less d₂ (items bs z) r s c
+  firsts-fwd H none-more items-stop = less e Q items-stop (omega arith) (omega arith) (omega arith)
+  firsts-fwd H (one-more a F) (items-bottom D) =
       let B = after H D in less e Q (items-bottom (B .ends)) (omega (arith, B .rel .names)) (omega (arith, B .rel .steps)) (omega (arith, B .rel .cells))
-  firsts-fwd H (f-more F) (items-late D I) =
+  firsts-fwd H (one-more a F) (items-late D I) =
       let B = after H D in
       let B′ = firsts-fwd H F I in
       less e Q (items-late (B .ends) (B′ .ends)) (omega (arith, B .rel .names, B′ .rel .names)) (omega (arith, B .rel .steps, B′ .rel .steps)) (omega (arith, B .rel .cells, B′ .rel .cells))
-  firsts-fwd H (f-more F) (items-go D I) =
+  firsts-fwd H (one-more a F) (items-go D I) =
       let B = after H D in
       let B′ = firsts-fwd H F I in
       less e Q (items-go (B .ends) (B′ .ends)) (omega (arith, B .rel .names, B′ .rel .names)) (omega (arith, B .rel .steps, B′ .rel .steps)) (omega (arith, B .rel .cells, B′ .rel .cells))
 
-  root3-fwd : (h a : Form) {fs bs : Forms} → Firsts h fs bs → (x : Obj)
+  root3-fwd : (h a : Form) {fs bs : Forms} → Ending h fs bs → (x : Obj)
       → Sub e Q Less (just (construct (chain (a & h & stop) & fs)) x) (just (chain (construct (a & bs) & h & stop)) x)
   root3-fwd h a {fs} {bs} F x d r s c (construct-bottom (items-bottom D)) = go (two D)
     where
@@ -159,17 +155,17 @@ module _ (e : Edition) (Q : Prog) where
           let B = firsts-fwd H F I in less e Q (two-object H (construct-object (items-go E (B .ends)))) (omega (arith, B .rel .names)) (omega (arith, B .rel .steps)) (omega (arith, B .rel .cells))
 
   firsts-bwd : {h : Form} {d d₂ : ℕ} {x z : Obj} {sh ch : ℕ} {fs bs : Forms} {r : Result} {s c : ℕ} → Ends e Q d (just h x) (object z) sh ch
-      → Firsts h fs bs → Ends e Q d₂ (items bs z) r s c → Better e Q Any d₂ (items fs x) r s c
-  firsts-bwd H f-stop items-stop = any e Q items-stop
-  firsts-bwd H (f-more F) (items-bottom D) = any e Q (items-bottom (two-object H D))
-  firsts-bwd H (f-more F) (items-late D I) = let B = firsts-bwd H F I in any e Q (items-late (two-object H D) (B .ends))
-  firsts-bwd H (f-more F) (items-go D I) = let B = firsts-bwd H F I in any e Q (items-go (two-object H D) (B .ends))
+      → Ending h fs bs → Ends e Q d₂ (items bs z) r s c → Better e Q Any d₂ (items fs x) r s c
+  firsts-bwd H none-more items-stop = any e Q items-stop
+  firsts-bwd H (one-more a F) (items-bottom D) = any e Q (items-bottom (two-object H D))
+  firsts-bwd H (one-more a F) (items-late D I) = let B = firsts-bwd H F I in any e Q (items-late (two-object H D) (B .ends))
+  firsts-bwd H (one-more a F) (items-go D I) = let B = firsts-bwd H F I in any e Q (items-go (two-object H D) (B .ends))
 
-  back3 : {h a : Form} {fs bs : Forms} {x : Obj} {d s c : ℕ} {r : Result} → Firsts h fs bs → Two (construct (a & bs)) h x d r s c
+  back3 : {h a : Form} {fs bs : Forms} {x : Obj} {d s c : ℕ} {r : Result} → Ending h fs bs → Two (construct (a & bs)) h x d r s c
       → Better e Q Any d (just (construct (chain (a & h & stop) & fs)) x) r s c
   back3 F (two-bottom H _ _ _) = any e Q (construct-bottom (items-bottom (bottom-two H)))
-  back3 F (two-go H (construct-bottom I) _ _ _) = let B = firsts-bwd H (f-more F) I in any e Q (construct-bottom (B .ends))
-  back3 F (two-go H (construct-object I) _ _ _) = let B = firsts-bwd H (f-more F) I in any e Q (construct-object (B .ends))
+  back3 {a = a} F (two-go H (construct-bottom I) _ _ _) = let B = firsts-bwd H (one-more a F) I in any e Q (construct-bottom (B .ends))
+  back3 {a = a} F (two-go H (construct-object I) _ _ _) = let B = firsts-bwd H (one-more a F) I in any e Q (construct-object (B .ends))
 
-  pub root3 : (h a : Form) {fs bs : Forms} → Firsts h fs bs → ImpF e Q (construct (chain (a & h & stop) & fs)) (chain (construct (a & bs) & h & stop))
+  pub root3 : (h a : Form) {fs bs : Forms} → Ending h fs bs → ImpF e Q (construct (chain (a & h & stop) & fs)) (chain (construct (a & bs) & h & stop))
   root3 h a F x = record { fwd = root3-fwd h a F x; bwd = λ d r s c D. back3 F (two D) }
