@@ -1,28 +1,29 @@
 -- One application does the same under two bounds, where the applications inside it do and both are at least the steps left.
-use Prim.Native.Nat.{ℕ, zero, suc, _+_, _*_, _-_, _≤_, _<_}
-use mathlib.Core.Path.{_≡_, refl, sym, subst, subst₂, _∙_, ap}
+use Prim.Native.Nat.{ℕ, zero, suc, _-_, _≤_, _<_}
+use mathlib.Core.Path.{_≡_, refl, sym, _∙_, ap}
 use mathlib.Core.Bool.{Bool, true, false}
-use mathlib.Core.List.{List, [], _∷_}
+use mathlib.Core.List.{List}
 use mathlib.Core.Option.{Option, some, none}
 use native.Mathlib.Omega.{arith}
-use lib.Dec.{leb, T, leb→le}
+use lib.Dec.{leb}
 use Rattle.language.specs.declared.Meter.{Meter}
-use Rattle.language.specs.Objects.{Obj, int, symbol, seq, Objs, nil, _::_, lengthOf, Truth, truthOf, isT, isF, neither}
-use Rattle.language.specs.Forms.{Word, Form, word, name, chain, construct, constant, insert, applyAll, bu, condition, while, Forms, stop, _&_, Def, Prog}
-use Rattle.language.specs.Meanings.{Edition, WordAnswer, falls, gives, meaning, pair}
-use Rattle.language.specs.Evaluation.{Spent, noStep, noName, noCell, Out, value, bottom as fallen, spent, bind, askStep, askSteps, askCells, withNames, close, askName, lookup, charged, Apply, chainBy, constructBy, eachBy, insertBy, whileBy, insertOn, applyAllOn, inside, apply, decide, gathered}
-use Rattle.theorems.proofs.Ends.{Job, just, parts, items, each, fold, loop, Result, object, bottom, Ends}
-use borrow.Author.Tests.{le-leb, lt-leb, leb-true, leb-false}
-use Rattle.theorems.proofs.Complete.{just-pos, meter-eq}
-use Rattle.theorems.proofs.Sound.{Spends, Explains, ex-object, ex-bottom, ex-out, ExplainsAll, ex-objects, ex-bottoms, ex-out-all, Good, parts-sound, items-sound, each-sound, fold-sound, sound}
+use Rattle.language.specs.Objects.{Obj, int, symbol, seq, Objs, nil, _::_, Truth, truthOf, isT, isF, neither}
+use Rattle.language.specs.Forms.{Form, word, name, chain, construct, constant, insert, applyAll, bu, condition, while, Forms, stop, _&_, Prog}
+use Rattle.language.specs.Meanings.{Edition, pair}
+use Rattle.language.specs.Evaluation.{noStep, noName, noCell, Out, value, bottom as fallen, spent, bind, askStep, askCells, withNames, close, askName, lookup, Apply, chainBy, constructBy, eachBy, insertBy, whileBy, insertOn, applyAllOn, inside, apply, decide, gathered}
+use Rattle.theorems.proofs.Ends.{Job, just}
+use Rattle.theorems.proofs.Complete.{just-pos}
+use Rattle.theorems.proofs.Sound.{Explains, ex-object, ex-bottom, ex-out, Good, parts-sound, fold-sound}
 
 -- what follows is the same where the steps left are no more
-bind-less : {e : Edition} {P : Prog} {B : Type 0} {j : Job} {m : Meter} {o : Out Obj} (k k′ : Obj → Meter → Out B) → Explains e P 0 0 j m o → ((v : Obj) (m₁ : Meter) → m₁ .steps ≤ m .steps → k v m₁ ≡ k′ v m₁) → bind o k ≡ bind o k′
+bind-less : {e : Edition} {P : Prog} {B : Type 0} {j : Job} {m : Meter} {o : Out Obj} (k k′ : Obj → Meter → Out B) → Explains e P 0 0 j m o
+    → ((v : Obj) (m₁ : Meter) → m₁ .steps ≤ m .steps → k v m₁ ≡ k′ v m₁) → bind o k ≡ bind o k′
 bind-less k k′ (ex-object {v = v} {m′ = m₁} E) f = f v m₁ (omega (arith, E .steps))
 bind-less k k′ (ex-bottom E) f = refl
 bind-less k k′ ex-out f = refl
 
-bind-fewer : {e : Edition} {P : Prog} {B : Type 0} {g : Form} {x : Obj} {m : Meter} {o : Out Obj} (k k′ : Obj → Meter → Out B) → Explains e P 0 0 (just g x) m o → ((v : Obj) (m₁ : Meter) → m₁ .steps < m .steps → k v m₁ ≡ k′ v m₁) → bind o k ≡ bind o k′
+bind-fewer : {e : Edition} {P : Prog} {B : Type 0} {g : Form} {x : Obj} {m : Meter} {o : Out Obj} (k k′ : Obj → Meter → Out B)
+    → Explains e P 0 0 (just g x) m o → ((v : Obj) (m₁ : Meter) → m₁ .steps < m .steps → k v m₁ ≡ k′ v m₁) → bind o k ≡ bind o k′
 bind-fewer {e} {P} k k′ (ex-object {v = v} {m′ = m₁} E) f = f v m₁ (omega (arith, E .steps, just-pos e P (E .ends)))
 bind-fewer k k′ (ex-bottom E) f = refl
 bind-fewer k k′ ex-out f = refl
@@ -33,7 +34,8 @@ cells-less {A} n m k k′ f = go (leb n (m .cells))
     m₁ : Meter
     m₁ = record { steps = m .steps; names = m .names; cells = m .cells - n }
 
-    go : (b : Bool) → Path (Out A) (elim b as (λ (b : Bool). Out A) [ true ↦ k m₁ | false ↦ spent noCell m ]) (elim b as (λ (b : Bool). Out A) [ true ↦ k′ m₁ | false ↦ spent noCell m ])
+    go : (b : Bool)
+        → Path (Out A) (elim b as (λ (b : Bool). Out A) [ true ↦ k m₁ | false ↦ spent noCell m ]) (elim b as (λ (b : Bool). Out A) [ true ↦ k′ m₁ | false ↦ spent noCell m ])
     go true = f m₁ (omega arith)
     go false = refl
 
@@ -53,7 +55,9 @@ abbrev tested : Apply → ℕ → Form → Form → Obj → Obj → Meter → Ou
 tested ap j p f x b m = decide b m (again ap j p f x) (λ m₁. value x m₁)
 
 -- two ways to apply: the first one's results end, both do the same up to N steps, and the first does nothing without a step
-module _ (e : Edition) (P : Prog) (u v : Apply) (g : Good e P u) (N : ℕ) (s : (f : Form) (x : Obj) (m : Meter) → m .steps ≤ N → u f x m ≡ v f x m) (z : (f : Form) (x : Obj) (m : Meter) → m .steps ≡ 0 → u f x m ≡ spent noStep m) where
+module _ (e : Edition) (P : Prog) (u v : Apply) (g : Good e P u) (N : ℕ)
+    (s : (f : Form) (x : Obj) (m : Meter) → m .steps ≤ N → u f x m ≡ v f x m)
+    (z : (f : Form) (x : Obj) (m : Meter) → m .steps ≡ 0 → u f x m ≡ spent noStep m) where
   parts-same : (fs : Forms) (x : Obj) (m : Meter) → m .steps ≤ N → chainBy u fs x m ≡ chainBy v fs x m
   parts-same stop x m h = refl
   parts-same (f & fs) x m h =
@@ -100,16 +104,19 @@ module _ (e : Edition) (P : Prog) (u v : Apply) (g : Good e P u) (N : ℕ) (s : 
       (λ b m₁ t. decide-same b m₁ (u f x) (u q x) (v f x) (v q x) (s f x m₁ (omega arith)) (s q x m₁ (omega arith)))
       ∙ ap (λ (o : Out Obj). bind o (λ b m₁. decide b m₁ (v f x) (v q x))) (s p x m l)
 
-  name-same : (b : Form) (x : Obj) (m : Meter) → m .steps ≤ N → askName m (λ m₁. u b x m₁) ≡ askName m (λ m₁. v b x m₁)
-  name-same b x m l = go (m .names)
+  name-same : (b : Form) (x : Obj) (m : Meter) → m .steps ≤ N → askName m (u b x) ≡ askName m (v b x)
+  name-same b x m l = go (m .names) refl
     where
-      go : (d : ℕ) → Path (Out Obj) (elim d as (λ (d : ℕ). Out Obj) [ zero ↦ spent noName m | suc d ↦ close (suc d) (u b x (withNames d m)) ]) (elim d as (λ (d : ℕ). Out Obj) [ zero ↦ spent noName m | suc d ↦ close (suc d) (v b x (withNames d m)) ])
-      go zero = refl
-      go (suc d) = ap (close (suc d)) (s b x (withNames d m) l)
+      go : (d : ℕ) → m .names ≡ d → askName m (u b x) ≡ askName m (v b x)
+      go zero q = rw (q, askName)
+      go (suc d) q = rw (q, askName) (ap (close (suc d)) (s b x (withNames d m) l))
 
-  lookup-same : (o : Option Form) (x : Obj) (m : Meter) → m .steps ≤ N → Path (Out Obj) (elim o as (λ (o : Option Form). Out Obj) [ none ↦ fallen m | some b ↦ askName m (λ m₁. u b x m₁) ]) (elim o as (λ (o : Option Form). Out Obj) [ none ↦ fallen m | some b ↦ askName m (λ m₁. v b x m₁) ])
-  lookup-same none x m l = refl
-  lookup-same (some b) x m l = name-same b x m l
+  lookup-same : (w : List ℕ) (x : Obj) (m : Meter) → m .steps ≤ N → inside u 0 e P (name w) x m ≡ inside v 0 e P (name w) x m
+  lookup-same w x m l = go (lookup w P) refl
+    where
+      go : (o : Option Form) → lookup w P ≡ o → inside u 0 e P (name w) x m ≡ inside v 0 e P (name w) x m
+      go none q = rw (q, inside)
+      go (some b) q = rw (q, inside) (name-same b x m l)
 
   insert-same : (f : Form) (x : Obj) (m : Meter) → m .steps ≤ N → insertOn u f x m ≡ insertOn v f x m
   insert-same f (int a) m l = refl
@@ -124,7 +131,7 @@ module _ (e : Edition) (P : Prog) (u v : Apply) (g : Good e P u) (N : ℕ) (s : 
 
   pub inside-same : (i j : ℕ) (f : Form) (x : Obj) (m : Meter) → m .steps ≤ N → m .steps ≤ i → m .steps ≤ j → inside u i e P f x m ≡ inside v j e P f x m
   inside-same i j (word w) x m h k l = refl
-  inside-same i j (name w) x m h k l = lookup-same (lookup w P) x m h
+  inside-same i j (name w) x m h k l = lookup-same w x m h
   inside-same i j (chain fs) x m h k l = parts-same fs x m h
   inside-same i j (construct fs) x m h k l = ap (λ (o : Out Objs). bind o gathered) (items-same fs x m h)
   inside-same i j (constant c) x m h k l = refl
@@ -142,6 +149,6 @@ dry (suc n) e P f x m h = rw (h, askStep) (ap (λ (k : ℕ). spent noStep (recor
 pub step-same : (m : Meter) (k k′ : Meter → Out Obj) → ((m₁ : Meter) → suc (m₁ .steps) ≡ m .steps → k m₁ ≡ k′ m₁) → askStep m k ≡ askStep m k′
 step-same m k k′ f = go (m .steps) refl
   where
-    go : (S : ℕ) → m .steps ≡ S → Path (Out Obj) (elim S as (λ (S : ℕ). Out Obj) [ zero ↦ spent noStep m | suc S ↦ k (record { steps = S; names = m .names; cells = m .cells }) ]) (elim S as (λ (S : ℕ). Out Obj) [ zero ↦ spent noStep m | suc S ↦ k′ (record { steps = S; names = m .names; cells = m .cells }) ])
-    go zero q = refl
-    go (suc S) q = f (record { steps = S; names = m .names; cells = m .cells }) (sym q)
+    go : (S : ℕ) → m .steps ≡ S → askStep m k ≡ askStep m k′
+    go zero q = rw (q, askStep)
+    go (suc S) q = rw (q, askStep) (f (record { steps = S; names = m .names; cells = m .cells }) (sym q))

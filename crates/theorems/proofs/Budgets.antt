@@ -1,11 +1,11 @@
 -- Raising budgets keeps an answer and its counts, and the bound on calls never decides.
-use Prim.Native.Nat.{ℕ, zero, suc, _≤_}
+use Prim.Native.Nat.{ℕ, zero, suc}
 use mathlib.Core.Path.{_≡_, refl, sym, subst}
 use native.Mathlib.Omega.{arith}
 use Rattle.language.specs.Evaluation.{inside, apply, run}
 use Rattle.theorems.specs.Demand3.{reaches}
 use Rattle.theorems.specs.Budgets.{Raised, BoundNeverDecides}
-use Rattle.theorems.proofs.Reached.{Ran, ran-complete, ran-sound}
+use Rattle.theorems.proofs.Reached.{ran-complete, ran-sound}
 use Rattle.theorems.proofs.Sound.{sound}
 use Rattle.theorems.proofs.Bound.{inside-same, dry, step-same}
 

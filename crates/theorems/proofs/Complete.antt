@@ -1,17 +1,15 @@
 -- What ends, ends so under any budgets that its counts fit.
-use Prim.Native.Nat.{ℕ, zero, suc, _+_, _*_, _-_, _≤_}
-use mathlib.Core.Path.{_≡_, refl, sym, subst, _∙_, ap}
-use mathlib.Core.Bool.{Bool, true, false}
-use mathlib.Core.List.{List}
-use mathlib.Core.Option.{Option, some, none}
+use Prim.Native.Nat.{ℕ, zero, suc, _+_, _≤_}
+use mathlib.Core.Path.{_≡_, refl, sym, _∙_, ap}
+use mathlib.Core.Bool.{true}
 use native.Mathlib.Omega.{arith}
-use lib.Dec.{leb, T, le→leb}
+use lib.Dec.{leb}
 use borrow.Author.Tests.{le-leb}
 use Rattle.language.specs.declared.Meter.{Meter}
-use Rattle.language.specs.Objects.{Obj, int, symbol, seq, Objs, nil, _::_, lengthOf, Truth, truthOf, isT, isF, neither}
-use Rattle.language.specs.Forms.{Word, Form, word, name, chain, construct, constant, insert, applyAll, bu, condition, while, Forms, stop, _&_, Def, Prog}
-use Rattle.language.specs.Meanings.{Edition, one, WordAnswer, falls, gives, meaning, pair}
-use Rattle.language.specs.Evaluation.{Spent, noStep, noName, noCell, Out, value, bottom as fallen, spent, bind, askStep, askSteps, askCells, withNames, close, askName, lookup, charged, Apply, chainBy, constructBy, eachBy, insertBy, whileBy, insertOn, applyAllOn, decide, gathered, inside, apply}
+use Rattle.language.specs.Objects.{Obj, int, symbol, seq, Objs, nil, lengthOf}
+use Rattle.language.specs.Forms.{Form, Prog}
+use Rattle.language.specs.Meanings.{Edition, gives, pair}
+use Rattle.language.specs.Evaluation.{Out, value, bottom as fallen, bind, askStep, askSteps, askCells, withNames, close, askName, charged, chainBy, constructBy, eachBy, insertBy, whileBy, decide, inside, apply}
 use Rattle.theorems.proofs.Ends.{Job, just, parts, items, each, fold, loop, Result, object, bottom, Ends, word-bottom, word-object, name-bottom, name-in, chain-in, construct-object, construct-bottom, constant-in, insert-fold, insert-nil, insert-int, insert-symbol, applyAll-object, applyAll-bottom, applyAll-int, applyAll-symbol, bu-in, condition-bottom, condition-no, condition-T, condition-F, while-in, parts-stop, parts-bottom, parts-go, items-stop, items-bottom, items-late, items-go, each-nil, each-bottom, each-late, each-go, fold-one, fold-bottom, fold-go, loop-bottom, loop-no, loop-F, loop-fell, loop-go}
 
 -- m′ is what is left of m after s steps and c cells
@@ -71,7 +69,8 @@ pub close-out : (r : Result) (N : ℕ) (m : Meter) → m .names ≡ suc N → cl
 close-out (object v) N m h = ap (value v) (meter-eq _ m refl (sym h) refl)
 close-out bottom N m h = ap fallen (meter-eq _ m refl (sym h) refl)
 
-pub ask-name : (m m′ : Meter) → m .names ≡ m′ .names → 1 ≤ m .names → (k : Meter → Out Obj) (r : Result) → ((N : ℕ) → m .names ≡ suc N → k (withNames N m) ≡ out r (withNames N m′)) → askName m k ≡ out r m′
+pub ask-name : (m m′ : Meter) → m .names ≡ m′ .names → 1 ≤ m .names → (k : Meter → Out Obj) (r : Result)
+    → ((N : ℕ) → m .names ≡ suc N → k (withNames N m) ≡ out r (withNames N m′)) → askName m k ≡ out r m′
 ask-name m m′ h q k r f = go (m .names) refl
   where
     go : (N : ℕ) → m .names ≡ N → askName m k ≡ out r m′
@@ -116,13 +115,16 @@ module _ (e : Edition) (P : Prog) where
   Meets n (loop p f x) r m m′ = (j : ℕ) → m .steps ≤ j → whileBy (apply n e P) j p f x m ≡ out r m′
 
   -- the step of an application is paid, and its inside is left
-  pub paid-step : (f : Form) (x : Obj) {o : Out Obj} {s c : ℕ} {m m′ : Meter} (n : ℕ) → Paid m (suc s) c m′ → m .steps ≤ n → ((n₁ : ℕ) (m₁ : Meter) → Paid m₁ s c m′ → m₁ .names ≡ m .names → m₁ .steps ≤ n₁ → inside (apply n₁ e P) n₁ e P f x m₁ ≡ o) → apply n e P f x m ≡ o
+  pub paid-step : (f : Form) (x : Obj) {o : Out Obj} {s c : ℕ} {m m′ : Meter} (n : ℕ) → Paid m (suc s) c m′ → m .steps ≤ n
+      → ((n₁ : ℕ) (m₁ : Meter) → Paid m₁ s c m′ → m₁ .names ≡ m .names → m₁ .steps ≤ n₁ → inside (apply n₁ e P) n₁ e P f x m₁ ≡ o)
+      → apply n e P f x m ≡ o
   paid-step f x zero p q k = absurd (omega (arith, p .steps))
   paid-step f x {s = s} {c = c} {m = m} {m′ = m′} (suc n) p q k =
       ask-step m (mid s c m′) (λ m₁. inside (apply n e P) n e P f x m₁) (record { steps = omega (arith, p .steps); cells = omega (arith, p .cells); names = p .names })
       ∙ k n (mid s c m′) paid-right (sym (p .names)) (omega (arith, p .steps))
 
-  pub round : (n : ℕ) {o : Out Obj} (m : Meter) (g f : Form) (x : Obj) (j : ℕ) → m .steps ≤ j → 1 ≤ m .steps → ((j₁ : ℕ) → m .steps ≤ suc j₁ → whileBy (apply n e P) (suc j₁) g f x m ≡ o) → whileBy (apply n e P) j g f x m ≡ o
+  pub round : (n : ℕ) {o : Out Obj} (m : Meter) (g f : Form) (x : Obj) (j : ℕ) → m .steps ≤ j → 1 ≤ m .steps
+      → ((j₁ : ℕ) → m .steps ≤ suc j₁ → whileBy (apply n e P) (suc j₁) g f x m ≡ o) → whileBy (apply n e P) j g f x m ≡ o
   round n m g f x zero u v k = absurd (omega arith)
   round n m g f x (suc j) u v k = k j u
 
@@ -136,7 +138,8 @@ module _ (e : Edition) (P : Prog) where
       complete D n₁ (withNames N m₁) (withNames N m′) (record { steps = p₁ .steps; cells = p₁ .cells; names = refl }) (omega arith) t₁)))
   complete (chain-in D) n m m′ p q t = paid-step _ _ n p t (λ n₁ m₁ p₁ q₁ t₁. complete D n₁ m₁ m′ p₁ (omega arith) t₁)
   complete (construct-object {ys = ys} D) n m m′ p q t =
-      paid-step _ _ n p t (λ n₁ m₁ p₁ q₁ t₁. rw (complete D n₁ m₁ (mid 0 (lengthOf ys) m′) (paid-cells _ p₁) (omega arith) t₁) (ask-cells (lengthOf ys) (mid 0 (lengthOf ys) m′) m′ (λ m₂. value (seq ys) m₂) paid-right))
+      paid-step _ _ n p t (λ n₁ m₁ p₁ q₁ t₁. rw (complete D n₁ m₁ (mid 0 (lengthOf ys) m′) (paid-cells _ p₁) (omega arith) t₁)
+      (ask-cells (lengthOf ys) (mid 0 (lengthOf ys) m′) m′ (λ m₂. value (seq ys) m₂) paid-right))
   complete (construct-bottom D) n m m′ p q t = paid-step _ _ n p t (λ n₁ m₁ p₁ q₁ t₁. rw (complete D n₁ m₁ m′ p₁ (omega arith) t₁))
   complete (constant-in {y = y}) n m m′ p q t = paid-step _ _ n p t (λ n₁ m₁ p₁ q₁ t₁. ap (value y) (done p₁))
   complete (insert-fold D) n m m′ p q t = paid-step _ _ n p t (λ n₁ m₁ p₁ q₁ t₁. complete D n₁ m₁ m′ p₁ (omega arith) t₁)
@@ -144,30 +147,40 @@ module _ (e : Edition) (P : Prog) where
   complete insert-int n m m′ p q t = paid-step _ _ n p t (λ n₁ m₁ p₁ q₁ t₁. ap fallen (done p₁))
   complete insert-symbol n m m′ p q t = paid-step _ _ n p t (λ n₁ m₁ p₁ q₁ t₁. ap fallen (done p₁))
   complete (applyAll-object {ys = ys} D) n m m′ p q t =
-      paid-step _ _ n p t (λ n₁ m₁ p₁ q₁ t₁. rw (complete D n₁ m₁ (mid 0 (lengthOf ys) m′) (paid-cells _ p₁) (omega arith) t₁) (ask-cells (lengthOf ys) (mid 0 (lengthOf ys) m′) m′ (λ m₂. value (seq ys) m₂) paid-right))
+      paid-step _ _ n p t (λ n₁ m₁ p₁ q₁ t₁. rw (complete D n₁ m₁ (mid 0 (lengthOf ys) m′) (paid-cells _ p₁) (omega arith) t₁)
+      (ask-cells (lengthOf ys) (mid 0 (lengthOf ys) m′) m′ (λ m₂. value (seq ys) m₂) paid-right))
   complete (applyAll-bottom D) n m m′ p q t = paid-step _ _ n p t (λ n₁ m₁ p₁ q₁ t₁. rw (complete D n₁ m₁ m′ p₁ (omega arith) t₁))
   complete applyAll-int n m m′ p q t = paid-step _ _ n p t (λ n₁ m₁ p₁ q₁ t₁. ap fallen (done p₁))
   complete applyAll-symbol n m m′ p q t = paid-step _ _ n p t (λ n₁ m₁ p₁ q₁ t₁. ap fallen (done p₁))
   complete (bu-in {f = f} {y = y} {x = x} {s = s} {c = c} D) n m m′ p q t =
-      paid-step _ _ n p t (λ n₁ m₁ p₁ q₁ t₁. ask-cells 2 m₁ (mid s c m′) (λ m₂. apply n₁ e P f (pair y x) m₂) (record { steps = omega (arith, p₁ .steps); cells = omega (arith, p₁ .cells); names = p₁ .names }) ∙ complete D n₁ (mid s c m′) m′ paid-right (omega arith) (omega arith))
+      paid-step _ _ n p t (λ n₁ m₁ p₁ q₁ t₁. ask-cells 2 m₁ (mid s c m′) (λ m₂. apply n₁ e P f (pair y x) m₂)
+      (record { steps = omega (arith, p₁ .steps); cells = omega (arith, p₁ .cells); names = p₁ .names })
+      ∙ complete D n₁ (mid s c m′) m′ paid-right (omega arith) (omega arith))
   complete (condition-bottom D) n m m′ p q t = paid-step _ _ n p t (λ n₁ m₁ p₁ q₁ t₁. rw (complete D n₁ m₁ m′ p₁ (omega arith) t₁))
   complete (condition-no D h) n m m′ p q t = paid-step _ _ n p t (λ n₁ m₁ p₁ q₁ t₁. rw (complete D n₁ m₁ m′ p₁ (omega arith) t₁) (rw (h, bind, decide)))
   complete (condition-T {s′ = s′} {c′ = c′} D h E) n m m′ p q t =
-      paid-step _ _ n p t (λ n₁ m₁ p₁ q₁ t₁. rw (complete D n₁ m₁ (mid s′ c′ m′) (paid-left s′ c′ p₁) (omega arith) t₁) (rw (h, bind, decide) (complete E n₁ (mid s′ c′ m′) m′ paid-right (omega arith) (omega arith))))
+      paid-step _ _ n p t (λ n₁ m₁ p₁ q₁ t₁. rw (complete D n₁ m₁ (mid s′ c′ m′) (paid-left s′ c′ p₁) (omega arith) t₁)
+      (rw (h, bind, decide) (complete E n₁ (mid s′ c′ m′) m′ paid-right (omega arith) (omega arith))))
   complete (condition-F {s′ = s′} {c′ = c′} D h E) n m m′ p q t =
-      paid-step _ _ n p t (λ n₁ m₁ p₁ q₁ t₁. rw (complete D n₁ m₁ (mid s′ c′ m′) (paid-left s′ c′ p₁) (omega arith) t₁) (rw (h, bind, decide) (complete E n₁ (mid s′ c′ m′) m′ paid-right (omega arith) (omega arith))))
+      paid-step _ _ n p t (λ n₁ m₁ p₁ q₁ t₁. rw (complete D n₁ m₁ (mid s′ c′ m′) (paid-left s′ c′ p₁) (omega arith) t₁)
+      (rw (h, bind, decide) (complete E n₁ (mid s′ c′ m′) m′ paid-right (omega arith) (omega arith))))
   complete (while-in D) n m m′ p q t = paid-step _ _ n p t (λ n₁ m₁ p₁ q₁ t₁. complete D n₁ m₁ m′ p₁ (omega arith) t₁ n₁ t₁)
   complete (parts-stop {x = x}) n m m′ p q t = ap (value x) (done p)
   complete (parts-bottom D) n m m′ p q t = rw (complete D n m m′ p (omega arith) t)
-  complete (parts-go {s′ = s′} {c′ = c′} D E) n m m′ p q t = rw (complete D n m (mid s′ c′ m′) (paid-left s′ c′ p) (omega arith) t) (complete E n (mid s′ c′ m′) m′ paid-right (omega arith) (omega arith))
+  complete (parts-go {s′ = s′} {c′ = c′} D E) n m m′ p q t =
+      rw (complete D n m (mid s′ c′ m′) (paid-left s′ c′ p) (omega arith) t) (complete E n (mid s′ c′ m′) m′ paid-right (omega arith) (omega arith))
   complete items-stop n m m′ p q t = ap (value nil) (done p)
   complete (items-bottom D) n m m′ p q t = rw (complete D n m m′ p (omega arith) t)
-  complete (items-late {s′ = s′} {c′ = c′} D E) n m m′ p q t = rw (complete D n m (mid s′ c′ m′) (paid-left s′ c′ p) (omega arith) t) (rw (complete E n (mid s′ c′ m′) m′ paid-right (omega arith) (omega arith)))
-  complete (items-go {s′ = s′} {c′ = c′} D E) n m m′ p q t = rw (complete D n m (mid s′ c′ m′) (paid-left s′ c′ p) (omega arith) t) (rw (complete E n (mid s′ c′ m′) m′ paid-right (omega arith) (omega arith)))
+  complete (items-late {s′ = s′} {c′ = c′} D E) n m m′ p q t =
+      rw (complete D n m (mid s′ c′ m′) (paid-left s′ c′ p) (omega arith) t) (rw (complete E n (mid s′ c′ m′) m′ paid-right (omega arith) (omega arith)))
+  complete (items-go {s′ = s′} {c′ = c′} D E) n m m′ p q t =
+      rw (complete D n m (mid s′ c′ m′) (paid-left s′ c′ p) (omega arith) t) (rw (complete E n (mid s′ c′ m′) m′ paid-right (omega arith) (omega arith)))
   complete each-nil n m m′ p q t = ap (value nil) (done p)
   complete (each-bottom D) n m m′ p q t = rw (complete D n m m′ p (omega arith) t)
-  complete (each-late {s′ = s′} {c′ = c′} D E) n m m′ p q t = rw (complete D n m (mid s′ c′ m′) (paid-left s′ c′ p) (omega arith) t) (rw (complete E n (mid s′ c′ m′) m′ paid-right (omega arith) (omega arith)))
-  complete (each-go {s′ = s′} {c′ = c′} D E) n m m′ p q t = rw (complete D n m (mid s′ c′ m′) (paid-left s′ c′ p) (omega arith) t) (rw (complete E n (mid s′ c′ m′) m′ paid-right (omega arith) (omega arith)))
+  complete (each-late {s′ = s′} {c′ = c′} D E) n m m′ p q t =
+      rw (complete D n m (mid s′ c′ m′) (paid-left s′ c′ p) (omega arith) t) (rw (complete E n (mid s′ c′ m′) m′ paid-right (omega arith) (omega arith)))
+  complete (each-go {s′ = s′} {c′ = c′} D E) n m m′ p q t =
+      rw (complete D n m (mid s′ c′ m′) (paid-left s′ c′ p) (omega arith) t) (rw (complete E n (mid s′ c′ m′) m′ paid-right (omega arith) (omega arith)))
   complete (fold-one {x = x}) n m m′ p q t = ap (value x) (done p)
   complete (fold-bottom D) n m m′ p q t = rw (complete D n m m′ p (omega arith) t)
   complete (fold-go {f = f} {x = x} {z = z} {s′ = s′} {c′ = c′} D E) n m m′ p q t =
@@ -175,8 +188,10 @@ module _ (e : Edition) (P : Prog) where
       (ask-cells 2 (mid s′ (2 + c′) m′) (mid s′ c′ m′) (λ m₂. apply n e P f (pair x z) m₂) (record { steps = omega arith; cells = omega arith; names = refl })
       ∙ complete E n (mid s′ c′ m′) m′ paid-right (omega arith) (omega arith))
   complete (loop-bottom {p = g} {f = f} {x = x} D) n m m′ p q t = λ j u. round n m g f x j u (omega (arith, p .steps, just-pos D)) (λ j₁ u₁. rw (complete D n m m′ p (omega arith) t))
-  complete (loop-no {p = g} {f = f} {x = x} D h) n m m′ p q t = λ j u. round n m g f x j u (omega (arith, p .steps, just-pos D)) (λ j₁ u₁. rw (complete D n m m′ p (omega arith) t) (rw (h, bind, decide)))
-  complete (loop-F {p = g} {f = f} {x = x} D h) n m m′ p q t = λ j u. round n m g f x j u (omega (arith, p .steps, just-pos D)) (λ j₁ u₁. rw (complete D n m m′ p (omega arith) t) (rw (h, bind, decide)))
+  complete (loop-no {p = g} {f = f} {x = x} D h) n m m′ p q t =
+      λ j u. round n m g f x j u (omega (arith, p .steps, just-pos D)) (λ j₁ u₁. rw (complete D n m m′ p (omega arith) t) (rw (h, bind, decide)))
+  complete (loop-F {p = g} {f = f} {x = x} D h) n m m′ p q t =
+      λ j u. round n m g f x j u (omega (arith, p .steps, just-pos D)) (λ j₁ u₁. rw (complete D n m m′ p (omega arith) t) (rw (h, bind, decide)))
   complete (loop-fell {p = g} {f = f} {x = x} {s′ = s′} {c′ = c′} D h E) n m m′ p q t = λ j u. round n m g f x j u (omega (arith, p .steps, just-pos D)) (λ j₁ u₁.
       rw (complete D n m (mid s′ c′ m′) (paid-left s′ c′ p) (omega arith) t) (rw (h, bind, decide) (rw (complete E n (mid s′ c′ m′) m′ paid-right (omega arith) (omega arith)))))
   complete (loop-go {p = g} {f = f} {x = x} {s′ = s′} {c′ = c′} {s″ = s″} {c″ = c″} D h E F) n m m′ p q t = λ j u. round n m g f x j u (omega (arith, p .steps, just-pos D)) (λ j₁ u₁.

@@ -1,18 +1,16 @@
--- One form for another inside every form, for any relation between the counts before and after that fits together.
-use Prim.Native.Nat.{ℕ, zero, suc, _+_, _*_, _-_, _≤_, max}
-use mathlib.Core.Path.{_≡_, refl, sym, _∙_}
-use mathlib.Core.List.{List}
-use mathlib.Core.Option.{Option, some, none}
+-- One form may stand for another inside every form, for any relation between the counts before and after that fits together.
+use Prim.Native.Nat.{ℕ, suc, _+_, _≤_, max}
 use native.Mathlib.Omega.{arith}
-use Rattle.language.specs.Objects.{Obj, int, symbol, seq, Objs, nil, _::_, lengthOf, truthOf, isT, isF, neither}
-use Rattle.language.specs.Forms.{Word, Form, word, name, chain, construct, constant, insert, applyAll, bu, condition, while, Forms, stop, _&_, Def, Prog}
-use Rattle.language.specs.Meanings.{Edition, one, WordAnswer, falls, gives, meaning, pair}
-use Rattle.language.specs.Evaluation.{lookup}
-use Rattle.theorems.proofs.Ends.{Job, just, parts, items, each, fold, loop, Result, object, bottom, Ends, word-bottom, word-object, name-bottom, name-in, chain-in, construct-object, construct-bottom, constant-in, insert-fold, insert-nil, insert-int, insert-symbol, applyAll-object, applyAll-bottom, applyAll-int, applyAll-symbol, bu-in, condition-bottom, condition-no, condition-T, condition-F, while-in, parts-stop, parts-bottom, parts-go, items-stop, items-bottom, items-late, items-go, each-nil, each-bottom, each-late, each-go, fold-one, fold-bottom, fold-go, loop-bottom, loop-no, loop-F, loop-fell, loop-go}
+use Rattle.language.specs.Objects.{Obj, Objs}
+use Rattle.language.specs.Forms.{Form, chain, construct, insert, applyAll, bu, condition, while, Forms, _&_, Prog}
+use Rattle.language.specs.Meanings.{Edition}
+use Rattle.theorems.proofs.Ends.{Job, just, parts, items, each, fold, loop, Result, Ends, chain-in, construct-object, construct-bottom, insert-fold, insert-nil, insert-int, insert-symbol, applyAll-object, applyAll-bottom, applyAll-int, applyAll-symbol, bu-in, condition-bottom, condition-no, condition-T, condition-F, while-in, parts-bottom, parts-go, items-bottom, items-late, items-go, each-nil, each-bottom, each-late, each-go, fold-one, fold-bottom, fold-go, loop-bottom, loop-no, loop-F, loop-fell, loop-go}
 
+-- names, steps and cells before, and after
 abbrev pub Rel : Type 1
 Rel = (d s c d′ s′ c′ : ℕ) → Type 0
 
+-- what such a relation must pass through: a step, an open name, cells, and two jobs one after the other
 pub record Closed (R : Rel) : Type 0 where
   pub same : (d s c : ℕ) → R d s c d s c
   pub trans : {d s c d′ s′ c′ d″ s″ c″ : ℕ} → R d s c d′ s′ c′ → R d′ s′ c′ d″ s″ c″ → R d s c d″ s″ c″
@@ -39,6 +37,7 @@ Less-closed = record {
   add = λ p q. record { names = omega arith; steps = omega arith; cells = omega arith };
 }
 
+-- at some cost
 abbrev pub Any : Rel
 Any d s c d′ s′ c′ = Unit {0}
 

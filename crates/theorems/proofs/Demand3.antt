@@ -1,8 +1,8 @@
 -- Demand 3 holds: each use of a law, and so any series of uses.
 use Prim.Native.Nat.{ℕ, _+_, _≤_}
-use mathlib.Core.Path.{_≡_, refl, sym}
+use mathlib.Core.Path.{_≡_}
 use mathlib.Core.Bool.{Bool, true, false}
-use mathlib.Core.List.{List, [], _∷_}
+use mathlib.Core.List.{List}
 use mathlib.Core.Option.{Option, some, none}
 use native.Mathlib.Omega.{arith}
 use Rattle.language.specs.declared.Meter.{Meter}
@@ -12,12 +12,12 @@ use Rattle.language.specs.Forms.{Form, Prog, programCells}
 use Rattle.language.specs.Meanings.{Edition}
 use Rattle.language.specs.Evaluation.{lookup, startingCells, run}
 use Rattle.theorems.specs.Demand3.{Result, reaches, Uses, noUse, useThen, NoMore, Somehow, Demand3}
-use Rattle.theorems.proofs.Congruence.{Less, Less-closed, Any, Any-closed, Better}
-use Rattle.theorems.proofs.Simulation.{Link, Linked, sim}
-use Rattle.theorems.proofs.Implies.{Imp, ImpF, imp-refl}
+use Rattle.theorems.proofs.Congruence.{Less, Less-closed, Any, Any-closed}
+use Rattle.theorems.proofs.Simulation.{Link, sim}
+use Rattle.theorems.proofs.Implies.{ImpF, imp-refl}
 use Rattle.theorems.proofs.Anywhere.{OneBody, this, later}
 use Rattle.theorems.proofs.Refines.{RefF, one-body, no-more-cells}
-use Rattle.theorems.proofs.Reached.{Ran, ran-complete, ran-sound}
+use Rattle.theorems.proofs.Reached.{ran-complete, ran-sound}
 
 -- what a name has in the two programs
 data Pair : Option Form → Option Form → Type 0 where
@@ -28,7 +28,8 @@ pair-refl : (o : Option Form) → Pair o o
 pair-refl none = p-none
 pair-refl (some a) = p-some (λ e Q x. imp-refl e Q _)
 
-pick-pair : (b : Bool) {o o′ q q′ : Option Form} → Pair o o′ → Pair q q′ → Pair (elim b as (λ (b : Bool). Option Form) [ true ↦ o | false ↦ q ]) (elim b as (λ (b : Bool). Option Form) [ true ↦ o′ | false ↦ q′ ])
+pick-pair : (b : Bool) {o o′ q q′ : Option Form} → Pair o o′ → Pair q q′
+    → Pair (elim b as (λ (b : Bool). Option Form) [ true ↦ o | false ↦ q ]) (elim b as (λ (b : Bool). Option Form) [ true ↦ o′ | false ↦ q′ ])
 pick-pair true p q = p
 pick-pair false p q = q
 
@@ -45,7 +46,8 @@ link-bwd e P Q p-none = tt
 link-bwd e P Q (p-some k) = λ x. k e Q x .bwd
 
 -- one use
-one-fwd : (e : Edition) (P P′ : Prog) → OneBody RefF P P′ → programCells P′ ≤ programCells P → (x : Obj) (b : Meter) (r : Result) (s c : ℕ) → run e P x b ≡ reaches r s c → NoMore e P′ x b r s c
+one-fwd : (e : Edition) (P P′ : Prog) → OneBody RefF P P′ → programCells P′ ≤ programCells P → (x : Obj) (b : Meter) (r : Result) (s c : ℕ)
+    → run e P x b ≡ reaches r s c → NoMore e P′ x b r s c
 one-fwd e P P′ F l x b r s c u =
     let K = ran-sound e P x b r s c u in
     let B = sim e P P′ Less Less-closed (λ w. link-fwd e P P′ (pairs F w)) (K .ends) in

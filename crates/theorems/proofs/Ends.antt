@@ -1,13 +1,17 @@
 -- What ends, free of budgets: a job's result with its exact steps and cells, with the most names open at once below it.
-use Prim.Native.Nat.{ℕ, zero, suc, _+_, _*_, _-_, _≤_, max}
-use mathlib.Core.Path.{_≡_, refl, subst₃}
-use mathlib.Core.Option.{Option, some, none}
+use Prim.Native.Nat.{ℕ, suc, _+_, max}
+use mathlib.Core.Path.{_≡_, subst₃}
+use mathlib.Core.List.{List}
+use mathlib.Core.Option.{some, none}
+use lib.IntN.{ℤ}
 use Rattle.language.specs.Objects.{Obj, int, symbol, seq, Objs, nil, _::_, lengthOf, truthOf, isT, isF, neither}
-use Rattle.language.specs.Forms.{Word, Form, word, name, chain, construct, constant, insert, applyAll, bu, condition, while, Forms, stop, _&_, Def, Prog}
-use Rattle.language.specs.Meanings.{Edition, one, WordAnswer, falls, gives, meaning, pair}
+use Rattle.language.specs.Forms.{Word, Form, word, name, chain, construct, constant, insert, applyAll, bu, condition, while, Forms, stop, _&_, Prog}
+use Rattle.language.specs.Meanings.{Edition, falls, gives, meaning, pair}
 use Rattle.language.specs.Evaluation.{lookup}
 pub use Rattle.theorems.specs.Demand3.{Result, object, bottom}
 
+-- What is done: one application; the parts of a chain, of which the last comes first; the forms of a construction; `@f` on
+-- each object; `/f` on a first object and those behind it; the rounds of a while.
 pub data Job : Type 0 where
   just : Form → Obj → Job
   parts : Forms → Obj → Job
@@ -17,11 +21,13 @@ pub data Job : Type 0 where
   loop : Form → Form → Obj → Job
 
 module _ (e : Edition) (P : Prog) where
+  -- the most names open at once, the job, its result, the steps, the cells
   pub data Ends : ℕ → Job → Result → ℕ → ℕ → Type 0 where
     word-bottom : {w : Word} {x : Obj} → meaning e w x ≡ falls → Ends 0 (just (word w) x) bottom 1 0
     word-object : {w : Word} {x v : Obj} {s c : ℕ} → meaning e w x ≡ gives s c v → Ends 0 (just (word w) x) (object v) (suc s) c
-    name-bottom : {w : mathlib.Core.List.List ℕ} {x : Obj} → lookup w P ≡ none → Ends 0 (just (name w) x) bottom 1 0
-    name-in : {d : ℕ} {w : mathlib.Core.List.List ℕ} {b : Form} {x : Obj} {r : Result} {s c : ℕ} → lookup w P ≡ some b → Ends d (just b x) r s c → Ends (suc d) (just (name w) x) r (suc s) c
+    name-bottom : {w : List ℕ} {x : Obj} → lookup w P ≡ none → Ends 0 (just (name w) x) bottom 1 0
+    name-in : {d : ℕ} {w : List ℕ} {b : Form} {x : Obj} {r : Result} {s c : ℕ} → lookup w P ≡ some b → Ends d (just b x) r s c
+        → Ends (suc d) (just (name w) x) r (suc s) c
     chain-in : {d : ℕ} {fs : Forms} {x : Obj} {r : Result} {s c : ℕ} → Ends d (parts fs x) r s c → Ends d (just (chain fs) x) r (suc s) c
     construct-object : {d : ℕ} {fs : Forms} {x : Obj} {ys : Objs} {s c : ℕ} → Ends d (items fs x) (object (seq ys)) s c
         → Ends d (just (construct fs) x) (object (seq ys)) (suc s) (c + lengthOf ys)
@@ -29,15 +35,17 @@ module _ (e : Edition) (P : Prog) where
     constant-in : {y x : Obj} → Ends 0 (just (constant y) x) (object y) 1 0
     insert-fold : {d : ℕ} {f : Form} {y : Obj} {ys : Objs} {r : Result} {s c : ℕ} → Ends d (fold f y ys) r s c → Ends d (just (insert f) (seq (y :: ys))) r (suc s) c
     insert-nil : {f : Form} → Ends 0 (just (insert f) (seq nil)) bottom 1 0
-    insert-int : {f : Form} {z : lib.IntN.ℤ} → Ends 0 (just (insert f) (int z)) bottom 1 0
-    insert-symbol : {f : Form} {z : mathlib.Core.List.List ℕ} → Ends 0 (just (insert f) (symbol z)) bottom 1 0
-    applyAll-object : {d : ℕ} {f : Form} {xs ys : Objs} {s c : ℕ} → Ends d (each f xs) (object (seq ys)) s c → Ends d (just (applyAll f) (seq xs)) (object (seq ys)) (suc s) (c + lengthOf ys)
+    insert-int : {f : Form} {z : ℤ} → Ends 0 (just (insert f) (int z)) bottom 1 0
+    insert-symbol : {f : Form} {z : List ℕ} → Ends 0 (just (insert f) (symbol z)) bottom 1 0
+    applyAll-object : {d : ℕ} {f : Form} {xs ys : Objs} {s c : ℕ} → Ends d (each f xs) (object (seq ys)) s c
+        → Ends d (just (applyAll f) (seq xs)) (object (seq ys)) (suc s) (c + lengthOf ys)
     applyAll-bottom : {d : ℕ} {f : Form} {xs : Objs} {s c : ℕ} → Ends d (each f xs) bottom s c → Ends d (just (applyAll f) (seq xs)) bottom (suc s) c
-    applyAll-int : {f : Form} {z : lib.IntN.ℤ} → Ends 0 (just (applyAll f) (int z)) bottom 1 0
-    applyAll-symbol : {f : Form} {z : mathlib.Core.List.List ℕ} → Ends 0 (just (applyAll f) (symbol z)) bottom 1 0
+    applyAll-int : {f : Form} {z : ℤ} → Ends 0 (just (applyAll f) (int z)) bottom 1 0
+    applyAll-symbol : {f : Form} {z : List ℕ} → Ends 0 (just (applyAll f) (symbol z)) bottom 1 0
     bu-in : {d : ℕ} {f : Form} {y x : Obj} {r : Result} {s c : ℕ} → Ends d (just f (pair y x)) r s c → Ends d (just (bu f y) x) r (suc s) (2 + c)
     condition-bottom : {d : ℕ} {p f g : Form} {x : Obj} {s c : ℕ} → Ends d (just p x) bottom s c → Ends d (just (condition p f g) x) bottom (suc s) c
-    condition-no : {d : ℕ} {p f g : Form} {x b : Obj} {s c : ℕ} → Ends d (just p x) (object b) s c → truthOf b ≡ neither → Ends d (just (condition p f g) x) bottom (suc s) c
+    condition-no : {d : ℕ} {p f g : Form} {x b : Obj} {s c : ℕ} → Ends d (just p x) (object b) s c → truthOf b ≡ neither
+        → Ends d (just (condition p f g) x) bottom (suc s) c
     condition-T : {d d′ : ℕ} {p f g : Form} {x b : Obj} {r : Result} {s c s′ c′ : ℕ} → Ends d (just p x) (object b) s c → truthOf b ≡ isT → Ends d′ (just f x) r s′ c′
         → Ends (max d d′) (just (condition p f g) x) r (suc (s + s′)) (c + c′)
     condition-F : {d d′ : ℕ} {p f g : Form} {x b : Obj} {r : Result} {s c s′ c′ : ℕ} → Ends d (just p x) (object b) s c → truthOf b ≡ isF → Ends d′ (just g x) r s′ c′

@@ -1,6 +1,6 @@
 -- A harmless form comes to an object, whatever it is applied to.
-use Prim.Native.Nat.{ℕ, zero, suc, _+_, _≤_, max}
-use mathlib.Core.Path.{_≡_, refl, sym, subst, _∙_, ap}
+use Prim.Native.Nat.{ℕ}
+use mathlib.Core.Path.{_≡_, refl}
 use mathlib.Core.Bool.{Bool, true, false, _&&_, false≢true}
 use Rattle.language.specs.Objects.{Obj, seq, Objs, nil, _::_}
 use Rattle.language.specs.Words.{Op}

@@ -1,9 +1,9 @@
 -- When one form serves for another at no more cost, and the other for the first at some cost; and so inside every form.
-use Prim.Native.Nat.{ℕ, zero, suc, _+_, _≤_, max}
-use mathlib.Core.Path.{_≡_, refl, sym, subst, _∙_, ap}
+use Prim.Native.Nat.{ℕ, suc, _≤_}
+use mathlib.Core.Path.{_≡_, sym, subst}
 use native.Mathlib.Omega.{arith}
 use Rattle.language.specs.Objects.{Obj, Truth, isT, isF, neither}
-use Rattle.language.specs.Forms.{Word, Form, word, chain, construct, insert, applyAll, bu, condition, while, Forms, stop, _&_, Prog}
+use Rattle.language.specs.Forms.{Word, Form, word, chain, construct, insert, applyAll, bu, condition, while, Forms, _&_, Prog}
 use Rattle.language.specs.Meanings.{Edition, WordAnswer, falls, gives, meaning}
 use Rattle.theorems.proofs.Ends.{Job, just, parts, items, Result, object, bottom, Ends, word-bottom, word-object}
 use Rattle.theorems.proofs.Congruence.{Less, Less-closed, Any, Any-closed, Better, Sub, sub-refl, sub-trans, parts-head, parts-tail, chain-sub, items-head, items-tail, construct-sub, insert-sub, applyAll-sub, bu-sub, condition-sub, while-sub}
@@ -41,7 +41,7 @@ module _ (e : Edition) (Q : Prog) where
   word-inv (word-bottom h) = subst (λ (a : WordAnswer). WordEnds a 0 bottom 1 0) (sym h) w-bottom
   word-inv (word-object {v = v} {s = s} {c = c} h) = subst (λ (a : WordAnswer). WordEnds a 0 (object v) (suc s) c) (sym h) w-object
 
-  -- what can't be
+  -- An object is not bottom, and T, F and neither are three.
   pub object-bottom : {X : Type 0} {v : Obj} → object v ≡ bottom → X
   object-bottom {v = v} h = let z : _≡_ {A = ℕ} 0 1 = cc in absurd (omega arith)
 
@@ -89,7 +89,8 @@ pub in-bu : {f f′ : Form} (y : Obj) (e : Edition) (Q : Prog) → ImpF e Q f f�
 in-bu y e Q p x = record { fwd = bu-sub e Q Less Less-closed y (λ z. p z .fwd) x; bwd = bu-sub e Q Any Any-closed y (λ z. p z .bwd) x }
 
 pub in-condition : {p p′ f f′ g g′ : Form} (e : Edition) (Q : Prog) → ImpF e Q p p′ → ImpF e Q f f′ → ImpF e Q g g′ → ImpF e Q (condition p f g) (condition p′ f′ g′)
-in-condition e Q p f g x = record { fwd = condition-sub e Q Less Less-closed (λ y. p y .fwd) (λ y. f y .fwd) (λ y. g y .fwd) x; bwd = condition-sub e Q Any Any-closed (λ y. p y .bwd) (λ y. f y .bwd) (λ y. g y .bwd) x }
+in-condition e Q p f g x =
+    record { fwd = condition-sub e Q Less Less-closed (λ y. p y .fwd) (λ y. f y .fwd) (λ y. g y .fwd) x; bwd = condition-sub e Q Any Any-closed (λ y. p y .bwd) (λ y. f y .bwd) (λ y. g y .bwd) x }
 
 pub in-while : {p p′ f f′ : Form} (e : Edition) (Q : Prog) → ImpF e Q p p′ → ImpF e Q f f′ → ImpF e Q (while p f) (while p′ f′)
 in-while e Q p f x = record { fwd = while-sub e Q Less Less-closed (λ y. p y .fwd) (λ y. f y .fwd) x; bwd = while-sub e Q Any Any-closed (λ y. p y .bwd) (λ y. f y .bwd) x }

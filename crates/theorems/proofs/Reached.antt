@@ -1,13 +1,13 @@
 -- A run reaches an answer exactly where the name `main` ends so and its counts fit the budgets.
 use Prim.Native.Nat.{ℕ, _+_, _-_, _≤_}
-use mathlib.Core.Path.{_≡_, refl, sym, subst, subst₂, _∙_, ap}
+use mathlib.Core.Path.{_≡_, refl, subst, subst₂, _∙_, ap}
 use mathlib.Core.Bool.{Bool, true, false}
 use native.Mathlib.Omega.{arith}
 use lib.Dec.{leb}
 use borrow.Author.Tests.{le-leb, leb-true}
 use Rattle.language.specs.declared.Meter.{Meter}
-use Rattle.language.specs.Objects.{Obj, cellsOf}
-use Rattle.language.specs.Forms.{Prog, programCells, mainForm}
+use Rattle.language.specs.Objects.{Obj}
+use Rattle.language.specs.Forms.{Prog, mainForm}
 use Rattle.language.specs.Meanings.{Edition}
 use Rattle.language.specs.Evaluation.{Out, apply, RunEnd, done, fell, tooFew, counted, startingCells, run}
 use Rattle.theorems.specs.Demand3.{Result, object, bottom, reaches}
@@ -35,7 +35,8 @@ counted-is b m′ bottom s c p q =
     let q′ : b .cells - m′ .cells ≡ c = omega arith in
     λ i. fell (p′ i) (q′ i)
 
-pub ran-complete : (e : Edition) (P : Prog) (x : Obj) (b : Meter) {d : ℕ} (r : Result) {s c₀ : ℕ} → Ends e P d (just mainForm x) r s c₀ → d ≤ b .names → s ≤ b .steps → startingCells P x + c₀ ≤ b .cells → run e P x b ≡ reaches r s (startingCells P x + c₀)
+pub ran-complete : (e : Edition) (P : Prog) (x : Obj) (b : Meter) {d : ℕ} (r : Result) {s c₀ : ℕ} → Ends e P d (just mainForm x) r s c₀ → d ≤ b .names
+    → s ≤ b .steps → startingCells P x + c₀ ≤ b .cells → run e P x b ≡ reaches r s (startingCells P x + c₀)
 ran-complete e P x b r {s} {c₀} D p q t =
     let h : leb (startingCells P x) (b .cells) ≡ true = le-leb (startingCells P x) (b .cells) (omega arith) in
     let m : Meter = record { steps = b .steps; names = b .names; cells = b .cells - startingCells P x } in
@@ -43,7 +44,8 @@ ran-complete e P x b r {s} {c₀} D p q t =
     let k : apply (b .steps) e P mainForm x m ≡ out r m′ = complete e P D (b .steps) m m′ (record { steps = omega arith; cells = omega arith; names = refl }) p (omega arith) in
     rw (h, run) (ap (counted b) k ∙ counted-is b m′ r s (startingCells P x + c₀) (omega arith) (omega arith))
 
-ran-inv : (e : Edition) (P : Prog) (x : Obj) (b m : Meter) (r : Result) (s c : ℕ) {o : Out Obj} → m .steps ≡ b .steps → m .names ≡ b .names → b .cells ≡ startingCells P x + m .cells → Explains e P 0 0 (just mainForm x) m o → counted b o ≡ reaches r s c → Ran e P x b r s c
+ran-inv : (e : Edition) (P : Prog) (x : Obj) (b m : Meter) (r : Result) (s c : ℕ) {o : Out Obj} → m .steps ≡ b .steps → m .names ≡ b .names
+    → b .cells ≡ startingCells P x + m .cells → Explains e P 0 0 (just mainForm x) m o → counted b o ≡ reaches r s c → Ran e P x b r s c
 ran-inv e P x b m (object v) s c p n q (ex-object {v = v′} {m′ = m′} E) u =
     let i : b .steps - m′ .steps ≡ s = cc in
     let j : b .cells - m′ .cells ≡ c = cc in
@@ -86,7 +88,9 @@ ran-sound e P x b r s c u = go (leb (startingCells P x) (b .cells)) refl u
     m : Meter
     m = record { steps = b .steps; names = b .names; cells = b .cells - startingCells P x }
 
-    go : (t : Bool) → leb (startingCells P x) (b .cells) ≡ t → elim t as (λ (t : Bool). RunEnd) [ false ↦ tooFew | true ↦ counted b (apply (b .steps) e P mainForm x m) ] ≡ reaches r s c → Ran e P x b r s c
+    go : (t : Bool) → leb (startingCells P x) (b .cells) ≡ t
+        → elim t as (λ (t : Bool). RunEnd) [ false ↦ tooFew | true ↦ counted b (apply (b .steps) e P mainForm x m) ] ≡ reaches r s c
+        → Ran e P x b r s c
     go false h u = few r s c u
     go true h u =
         let l : startingCells P x ≤ b .cells = leb-true (startingCells P x) (b .cells) h in

@@ -2,21 +2,20 @@
 -- has fewer forms.
 use Prim.Native.Nat.{ℕ, zero, suc, _+_, _≤_, _<_}
 use mathlib.Core.Path.{_≡_, refl, sym, subst, subst₂, _∙_, ap}
-use mathlib.Core.Bool.{Bool, true, false}
-use mathlib.Core.List.{List, [], _∷_}
 use mathlib.Core.Option.{Option, some, none}
 use native.Mathlib.Omega.{arith}
 use Rattle.language.specs.Objects.{Obj, seq, Objs, lengthOf, Truth, truthOf, isT, isF, neither}
 use Rattle.language.specs.Words.{Op}
-use Rattle.language.specs.Forms.{Word, op, Form, word, name, chain, construct, constant, insert, applyAll, bu, condition, while, Forms, stop, _&_, Prog, _+&_, count, formsIn, formsInAll, formsOf, constantCells, constantCellsAll, programCells}
+use Rattle.language.specs.Forms.{Word, op, Form, word, chain, construct, constant, bu, condition, Forms, stop, _&_, Prog, _+&_, count, formsIn, formsInAll, formsOf, constantCells, constantCellsAll, programCells}
 use Rattle.language.specs.Meanings.{Edition, meaning, pick}
 use Rattle.language.specs.Laws.{harmless, allHarmless, put, fit1, fit2, fit5, chosen, fit6, fit7, fit8, fit10, endingIn, rewrite3, rewrite4, rewrite9, rewrite11, New, formOf, closed, Law, law1, law2, law3, law4, law5, law6, law7, law8, law9, law10, law11, atRoot}
-use Rattle.language.specs.Uses.{useAt, applyLaw}
-use Rattle.theorems.proofs.Inversions.{some-inj, none-some, Made, chain-made, construct-made, constant-made, MadeCondition, condition-made, MadeSelector, selector-made, Two, two, TwoOrMore, two-or-more, Something, something, when-true, when-same, Split, split, EndsIn, ends-in}
-use Rattle.theorems.proofs.Anywhere.{chain-law, whole-law, Passes, anywhere, OneBody, this, later, Used, each-use}
+use Rattle.language.specs.Uses.{applyLaw}
+use Rattle.theorems.proofs.Inversions.{some-inj, none-some, chain-made, construct-made, constant-made, condition-made, selector-made, two, two-or-more, something, when-true, when-same, split, ends-in, Ending, none-more, one-more, ending, PutIn, one-part, its-parts, put-in}
+use Rattle.theorems.proofs.FormCounts.{formsInAll-append, constantCellsAll-append, form-counted}
+use Rattle.theorems.proofs.Anywhere.{chain-law, whole-law, Passes, anywhere, OneBody, this, later, each-use}
 use Rattle.theorems.proofs.Implies.{ImpF, ImpP, ImpI, imp-refl, imp-trans, part-head, part-tail, in-chain, item-head, item-tail, in-construct, in-insert, in-applyAll, in-bu, in-condition, in-while, same}
 use Rattle.theorems.proofs.ChainLaws.{Choice, here, there, Picks, root1, root2, root5, root6, root7, root8, root10, alone}
-use Rattle.theorems.proofs.WholeLaws.{Firsts, f-stop, f-more, root3, root4, root9T, root9F, root11}
+use Rattle.theorems.proofs.WholeLaws.{root3, root4, root9T, root9F, root11}
 
 -- of forms, of the parts of a chain, and of the forms of a construction
 pub record RefF (f g : Form) : Type 0 where
@@ -36,33 +35,17 @@ pub record RefI (fs gs : Forms) : Type 0 where
 
 -- ---- a part put among a chain's parts
 
-cells-join : (gs fs : Forms) → constantCellsAll (gs +& fs) ≡ constantCellsAll gs + constantCellsAll fs
-cells-join stop fs = omega arith
-cells-join (g & gs) fs = omega (arith, cells-join gs fs)
-
-forms-join : (gs fs : Forms) → formsInAll (gs +& fs) ≡ formsInAll gs + formsInAll fs
-forms-join stop fs = omega arith
-forms-join (g & gs) fs = omega (arith, forms-join gs fs)
-
 record Put (f : Form) (fs gs : Forms) : Type 0 where
   imp : (e : Edition) (Q : Prog) → ImpP e Q (f & fs) gs
   cells : constantCellsAll gs ≤ constantCells f + constantCellsAll fs
   fewer : formsInAll gs ≤ formsIn f + formsInAll fs
 
-put-plain : (f : Form) (fs : Forms) → Put f fs (f & fs)
-put-plain f fs = record { imp = λ e Q x. imp-refl e Q _; cells = omega arith; fewer = omega arith }
+has-put : {f : Form} {fs gs : Forms} → PutIn f fs gs → Put f fs gs
+has-put (one-part f fs) = record { imp = λ e Q x. imp-refl e Q _; cells = omega arith; fewer = omega arith }
+has-put (its-parts gs fs) = record { imp = λ e Q. root2 e Q gs fs; cells = omega (arith, constantCellsAll-append gs fs); fewer = omega (arith, formsInAll-append gs fs) }
 
 put-ref : (f : Form) (fs : Forms) → Put f fs (put f fs)
-put-ref (word w) fs = put-plain (word w) fs
-put-ref (name w) fs = put-plain (name w) fs
-put-ref (chain gs) fs = record { imp = λ e Q. root2 e Q gs fs; cells = omega (arith, cells-join gs fs); fewer = omega (arith, forms-join gs fs) }
-put-ref (construct gs) fs = put-plain (construct gs) fs
-put-ref (constant x) fs = put-plain (constant x) fs
-put-ref (insert f) fs = put-plain (insert f) fs
-put-ref (applyAll f) fs = put-plain (applyAll f) fs
-put-ref (bu f x) fs = put-plain (bu f x) fs
-put-ref (condition p f g) fs = put-plain (condition p f g) fs
-put-ref (while p f) fs = put-plain (while p f) fs
+put-ref f fs = has-put (put-in f fs)
 
 -- ---- the laws among a chain's parts
 
@@ -81,8 +64,8 @@ fits2 (f & fs) gs h =
     let M = chain-made f (λ gs. some (gs +& fs)) gs h in
     subst₂ (λ (a : Form) (bs : Forms). RefP (a & fs) bs) (sym (M .is)) (some-inj (M .gives)) (record {
       imp = λ e Q. root2 e Q (M .of) fs;
-      cells = omega (arith, cells-join (M .of) fs);
-      fewer = omega (arith, forms-join (M .of) fs);
+      cells = omega (arith, constantCellsAll-append (M .of) fs);
+      fewer = omega (arith, formsInAll-append (M .of) fs);
     })
 
 ref5 : (f g : Form) (x : Obj) (fs : Forms) → RefP (f & construct (constant x & g & stop) & fs) (bu f x & put g fs)
@@ -120,7 +103,8 @@ chose (suc j) (f & fs) g h =
     record { choice = there (w .0) (C .choice); cells = omega (arith, C .cells); fewer = omega (arith, C .fewer) }
 
 -- what a selector picks where the law finds how many are before it
-picked : (w : Word) (before : ℕ → Option ℕ) (gs : Forms) (j : ℕ) → ((e : Edition) (vs : Objs) → meaning e w (seq vs) ≡ pick (before (lengthOf vs)) vs) → before (count gs) ≡ some j → (e : Edition) (Q : Prog) → Picks e Q w gs j
+picked : (w : Word) (before : ℕ → Option ℕ) (gs : Forms) (j : ℕ) → ((e : Edition) (vs : Objs) → meaning e w (seq vs) ≡ pick (before (lengthOf vs)) vs)
+    → before (count gs) ≡ some j → (e : Edition) (Q : Prog) → Picks e Q w gs j
 picked w before gs j a h e Q vs l = a e vs ∙ ap (λ (k : ℕ). pick (before k) vs) l ∙ ap (λ (o : Option ℕ). pick o vs) h
 
 ref6 : (w : Word) (gs fs : Forms) (j : ℕ) (g : Form) → ((e : Edition) (Q : Prog) → Picks e Q w gs j) → Chose j gs g → RefP (word w & construct gs & fs) (put g fs)
@@ -141,7 +125,7 @@ fits6 fs gs h =
     let J = something (chosen (I .of) (M .of)) _ gs (I .gives) in
     let q : fs ≡ word (S .selector) & construct (M .of) & T .rest = cc in
     subst₂ RefP (sym q) (some-inj (J .gives))
-      (ref6 (S .selector) (M .of) (T .rest) (I .of) (J .of) (picked (S .selector) (S .before) (M .of) (I .of) (S .picks) (I .is)) (chose (I .of) (M .of) (J .of) (J .is)))
+    (ref6 (S .selector) (M .of) (T .rest) (I .of) (J .of) (picked (S .selector) (S .before) (M .of) (I .of) (S .picks) (I .is)) (chose (I .of) (M .of) (J .of) (J .is)))
 
 fits7 : Fits fit7
 fits7 fs gs h =
@@ -154,25 +138,13 @@ fits7 fs gs h =
     let q : fs ≡ word (op Op.tl) & construct (N .f & N .g & N .rest) & T .rest = cc in
     subst₂ RefP (sym q) (some-inj (v .1)) (record { imp = λ e Q. root7 e Q (N .f) (N .g & N .rest) (T .rest) (v .0); cells = omega arith; fewer = omega arith })
 
-forms-one : (f : Form) → 1 ≤ formsIn f
-forms-one (word w) = omega arith
-forms-one (name w) = omega arith
-forms-one (chain fs) = omega arith
-forms-one (construct fs) = omega arith
-forms-one (constant x) = omega arith
-forms-one (insert f) = omega arith
-forms-one (applyAll f) = omega arith
-forms-one (bu f x) = omega arith
-forms-one (condition p f g) = omega arith
-forms-one (while p f) = omega arith
-
 fits8 : Fits fit8
 fits8 fs gs h =
     let T = two-or-more fs _ gs h in
     let K = constant-made (T .f) _ gs (T .gives) in
     let v = when-true (harmless (T .g)) _ gs (K .gives) in
     let q : fs ≡ constant (K .of) & T .g & T .rest = cc in
-    subst₂ RefP (sym q) (some-inj (v .1)) (record { imp = λ e Q. root8 e Q (K .of) (T .g) (T .rest) (v .0); cells = omega arith; fewer = omega (arith, forms-one (T .g)) })
+    subst₂ RefP (sym q) (some-inj (v .1)) (record { imp = λ e Q. root8 e Q (K .of) (T .g) (T .rest) (v .0); cells = omega arith; fewer = omega (arith, form-counted (T .g)) })
 
 fits10 : Fits fit10
 fits10 fs gs h =
@@ -190,28 +162,21 @@ fits10 fs gs h =
 abbrev Rewrites : (Form → Option Form) → Type 0
 Rewrites rewrite = (f g : Form) → rewrite f ≡ some g → RefF f g
 
-firsts-are : (h : Form) (fs bs : Forms) → endingIn h fs ≡ some bs → Firsts h fs bs
-firsts-are h stop bs u = subst (Firsts h stop) (some-inj u) f-stop
-firsts-are h (c & cs) bs u =
-    let E = ends-in h c _ bs u in
-    let S = something (endingIn h cs) _ bs (E .gives) in
-    subst₂ (λ (a : Form) (ds : Forms). Firsts h (a & cs) ds) (sym (E .is)) (some-inj (S .gives)) (f-more (firsts-are h cs (S .of) (S .is)))
+ending-cells : {h : Form} {fs bs : Forms} → Ending h fs bs → constantCellsAll bs ≤ constantCellsAll fs
+ending-cells none-more = omega arith
+ending-cells (one-more a F) = omega (arith, ending-cells F)
 
-firsts-cells : {h : Form} {fs bs : Forms} → Firsts h fs bs → constantCellsAll bs ≤ constantCellsAll fs
-firsts-cells f-stop = omega arith
-firsts-cells (f-more F) = omega (arith, firsts-cells F)
+ending-forms : {h : Form} {fs bs : Forms} → Ending h fs bs → formsInAll bs ≤ formsInAll fs
+ending-forms none-more = omega arith
+ending-forms (one-more a F) = omega (arith, ending-forms F)
 
-firsts-forms : {h : Form} {fs bs : Forms} → Firsts h fs bs → formsInAll bs ≤ formsInAll fs
-firsts-forms f-stop = omega arith
-firsts-forms (f-more F) = omega (arith, firsts-forms F)
-
-ref3 : (h : Form) {f g : Form} {fs bs : Forms} → Firsts h (f & g & fs) bs → RefF (construct (f & g & fs)) (chain (construct bs & put h stop))
-ref3 h {bs = bs} (f-more {a = a} (f-more F)) =
+ref3 : (h : Form) {f g : Form} {fs bs : Forms} → Ending h (f & g & fs) bs → RefF (construct (f & g & fs)) (chain (construct bs & put h stop))
+ref3 h {bs = bs} (one-more a (one-more b F)) =
     let U = put-ref h stop in
     record {
-      imp = λ e Q x. imp-trans e Q (root3 e Q h a (f-more F) x) (in-chain e Q (part-tail (construct bs) e Q (U .imp e Q)) x);
-      cells = omega (arith, firsts-cells F, U .cells);
-      fewer = omega (arith, firsts-forms F, U .fewer);
+      imp = λ e Q x. imp-trans e Q (root3 e Q h a (one-more b F) x) (in-chain e Q (part-tail (construct bs) e Q (U .imp e Q)) x);
+      cells = omega (arith, ending-cells F, U .cells);
+      fewer = omega (arith, ending-forms F, U .fewer);
     }
 
 rewrites3 : Rewrites rewrite3
@@ -220,7 +185,7 @@ rewrites3 c c′ u =
     let T = two-or-more (M .of) _ c′ (M .gives) in
     let S = split (T .f) _ c′ (T .gives) in
     let G = something (endingIn (S .h) (M .of)) _ c′ (S .gives) in
-    let F : Firsts (S .h) (T .f & T .g & T .rest) (G .of) = subst (λ (cs : Forms). Firsts (S .h) cs (G .of)) (T .is) (firsts-are (S .h) (M .of) (G .of) (G .is)) in
+    let F : Ending (S .h) (T .f & T .g & T .rest) (G .of) = subst (λ (cs : Forms). Ending (S .h) cs (G .of)) (T .is) (ending (S .h) (M .of) (G .of) (G .is)) in
     let q : c ≡ construct (T .f & T .g & T .rest) = cc in
     subst₂ RefF (sym q) (some-inj (G .gives)) (ref3 (S .h) F)
 
@@ -242,7 +207,8 @@ rewrites4 c c′ u =
     let q : c ≡ condition (chain (S .f & S .h & stop)) (chain (A .f & S .h & stop)) (chain (B .f & S .h & stop)) = cc in
     subst₂ RefF (sym q) (some-inj (B .gives)) (ref4 (S .f) (A .f) (B .f) (S .h))
 
-ref9 : (x : Obj) (f g c : Form) (t : Truth) → truthOf x ≡ t → elim t as (λ (t : Truth). Option Form) [ isT ↦ some f | isF ↦ some g | neither ↦ none ] ≡ some c → RefF (condition (constant x) f g) c
+ref9 : (x : Obj) (f g c : Form) (t : Truth) → truthOf x ≡ t
+    → elim t as (λ (t : Truth). Option Form) [ isT ↦ some f | isF ↦ some g | neither ↦ none ] ≡ some c → RefF (condition (constant x) f g) c
 ref9 x f g c isT h u = subst (RefF (condition (constant x) f g)) (some-inj u) (record { imp = λ e Q. root9T e Q x f g h; cells = omega arith; fewer = omega arith })
 ref9 x f g c isF h u = subst (RefF (condition (constant x) f g)) (some-inj u) (record { imp = λ e Q. root9F e Q x f g h; cells = omega arith; fewer = omega arith })
 ref9 x f g c neither h u = none-some u
@@ -268,7 +234,9 @@ rewrites11 c c′ u =
 passes : Passes RefF RefP RefI
 passes = record {
   part = λ fs K. record { imp = λ e Q. part-head fs e Q (K .imp e Q); cells = omega (arith, K .cells); fewer = omega (arith, K .fewer) };
-  joined = λ fs K. let U = put-ref _ fs in record { imp = λ e Q x. imp-trans e Q (part-head fs e Q (K .imp e Q) x) (U .imp e Q x); cells = omega (arith, K .cells, U .cells); fewer = omega (arith, K .fewer, U .fewer) };
+  joined = λ fs K.
+      let U = put-ref _ fs in
+      record { imp = λ e Q x. imp-trans e Q (part-head fs e Q (K .imp e Q) x) (U .imp e Q x); cells = omega (arith, K .cells, U .cells); fewer = omega (arith, K .fewer, U .fewer) };
   behind-part = λ f K. record { imp = λ e Q. part-tail f e Q (K .imp e Q); cells = omega (arith, K .cells); fewer = omega (arith, K .fewer) };
   in-chain = λ K. record { imp = λ e Q. in-chain e Q (K .imp e Q); cells = K .cells; fewer = omega (arith, K .fewer) };
   item = λ fs K. record { imp = λ e Q. item-head fs e Q (K .imp e Q); cells = omega (arith, K .cells); fewer = omega (arith, K .fewer) };

@@ -6,14 +6,15 @@ use mathlib.Core.Option.{Option, some, none}
 use native.Mathlib.Omega.{arith}
 use Rattle.language.specs.Objects.{Obj, Truth, truthOf, isT, isF, neither}
 use Rattle.language.specs.Words.{Op}
-use Rattle.language.specs.Forms.{Form, word, name, chain, construct, constant, insert, applyAll, bu, condition, while, Forms, stop, _&_, op, _+&_, count, formsIn, formsInAll, constantCells}
+use Rattle.language.specs.Forms.{Form, word, chain, construct, constant, bu, condition, Forms, stop, _&_, op, _+&_, count, formsIn, formsInAll, constantCells}
 use Rattle.language.specs.Forms.{constantCellsAll}
 use Rattle.language.specs.Laws.{harmless, allHarmless, onConstruct, onConstant, onCondition, onSelector, onTwo, onTwoOrMore, onSome, when, whenSame, put, fit1, fit2, fit5, chosen, fit6, fit7, fit8}
 use Rattle.language.specs.Laws.{fit10, onSplit, onEndingIn, endingIn, rewrite3, rewrite4, rewrite9, rewrite11, New, formOf, closed, inChain, Law, law1, law2, law3, law4, law5, law6, law7, law8, law9}
 use Rattle.language.specs.Laws.{law10, law11, atRoot}
 use Rattle.language.specs.Accepted.{OneOrMore, IsForm, AreForms}
 use Rattle.theorems.proofs.Inversions.{some-inj, none-some, chain-made, construct-made, constant-made, condition-made, selector-made, two, two-or-more, something, when-true, when-same, split}
-use Rattle.theorems.proofs.Inversions.{ends-in}
+use Rattle.theorems.proofs.Inversions.{ends-in, Ending, none-more, one-more, ending, PutIn, one-part, its-parts, put-in}
+use Rattle.theorems.proofs.FormCounts.{formsInAll-append, constantCellsAll-append, count-append, form-counted}
 use Rattle.theorems.proofs.Anywhere.{chain-law, whole-law}
 use Rattle.theorems.proofs.WrittenLengths.{brackets, formBytes, dottedBytes, formsBytes, commaBytes, at-most-two, form-written, dotted-put}
 
@@ -59,38 +60,9 @@ closes (f & g & fs) (a & b & gs) r ok =
 
 -- ---- a form put among a chain's parts
 
-formsInAll-append : (fs gs : Forms) → formsInAll (fs +& gs) ≡ formsInAll fs + formsInAll gs
-formsInAll-append stop gs = omega arith
-formsInAll-append (f & fs) gs = omega (arith, formsInAll-append fs gs)
-
-constantCellsAll-append : (fs gs : Forms) → constantCellsAll (fs +& gs) ≡ constantCellsAll fs + constantCellsAll gs
-constantCellsAll-append stop gs = omega arith
-constantCellsAll-append (f & fs) gs = omega (arith, constantCellsAll-append fs gs)
-
-count-append : (fs gs : Forms) → count (fs +& gs) ≡ count fs + count gs
-count-append stop gs = omega arith
-count-append (f & fs) gs = omega (arith, count-append fs gs)
-
 areForms-append : (fs gs : Forms) → AreForms fs → AreForms gs → AreForms (fs +& gs)
 areForms-append stop gs oks ok = ok
 areForms-append (f & fs) gs oks ok = (oks .0, areForms-append fs gs (oks .1) ok)
-
--- It is one part, or a chain whose parts are joined in.
-data PutIn : Form → Forms → Forms → Type 0 where
-  one-part : (g : Form) (fs : Forms) → PutIn g fs (g & fs)
-  its-parts : (gs fs : Forms) → PutIn (chain gs) fs (gs +& fs)
-
-put-in : (g : Form) (fs : Forms) → PutIn g fs (put g fs)
-put-in (word w) fs = one-part _ fs
-put-in (name w) fs = one-part _ fs
-put-in (chain gs) fs = its-parts gs fs
-put-in (construct gs) fs = one-part _ fs
-put-in (constant x) fs = one-part _ fs
-put-in (insert f) fs = one-part _ fs
-put-in (applyAll f) fs = one-part _ fs
-put-in (bu f x) fs = one-part _ fs
-put-in (condition p f g) fs = one-part _ fs
-put-in (while p f) fs = one-part _ fs
 
 pub record HasPut (g : Form) (fs hs : Forms) : Type 0 where
   pub parts : suc (count fs) ≤ count hs
@@ -106,7 +78,8 @@ has-put-in (its-parts (g & gs) fs) ok oks =
       parts = omega (arith, count-append gs fs);
       forms = omega (arith, formsInAll-append gs fs);
       cells = omega (arith, constantCellsAll-append gs fs);
-      areForms = areForms-append (g & gs) fs (ok .1) oks }
+      areForms = areForms-append (g & gs) fs (ok .1) oks;
+    }
 
 pub has-put : (g : Form) (fs : Forms) → IsForm g → AreForms fs → HasPut g fs (put g fs)
 has-put g fs ok oks = has-put-in (put-in g fs) ok oks
@@ -116,18 +89,6 @@ has-put g fs ok oks = has-put-in (put-in g fs) ok oks
 -- a law's parts, known by their shape
 of-shape : {fs fs′ gs gs′ : Forms} → fs ≡ fs′ → some gs′ ≡ some gs → PartsShrink 1 fs′ gs′ → PartsShrink 1 fs gs
 of-shape {fs} {fs′} {gs} {gs′} e u r = subst (λ (hs : Forms). PartsShrink 1 hs gs) (sym e) (subst (λ (hs : Forms). PartsShrink 1 fs′ hs) (some-inj u) r)
-
-pub form-counted : (f : Form) → 1 ≤ formsIn f
-form-counted (word w) = omega arith
-form-counted (name w) = omega arith
-form-counted (chain fs) = omega arith
-form-counted (construct fs) = omega arith
-form-counted (constant x) = omega arith
-form-counted (insert f) = omega arith
-form-counted (applyAll f) = omega arith
-form-counted (bu f x) = omega arith
-form-counted (condition p f g) = omega arith
-form-counted (while p f) = omega arith
 
 -- a part goes away
 one-less : (f : Form) (fs : Forms) → PartsShrink 1 (f & fs) fs
@@ -146,7 +107,8 @@ law2-shrinks hs fs e u = of-shape e u λ ok.
       forms = omega (arith, formsInAll-append hs fs);
       cells = omega arith;
       bytes = omega (arith, dotted-put (chain hs) fs (ok .0));
-      areForms = j .areForms }
+      areForms = j .areForms;
+    }
 
 fits2 : (fs gs : Forms) → fit2 fs ≡ some gs → PartsShrink 1 fs gs
 fits2 stop gs u = none-some u
@@ -164,7 +126,8 @@ law5-shrinks f g x rest e u = of-shape e u λ ok.
       forms = omega arith;
       cells = omega arith;
       bytes = omega (arith, dotted-put g rest okg);
-      areForms = ((ok .0, ok .1 .0 .1 .0), j .areForms) }
+      areForms = ((ok .0, ok .1 .0 .1 .0), j .areForms);
+    }
 
 fits5 : (fs gs : Forms) → fit5 fs ≡ some gs → PartsShrink 1 fs gs
 fits5 fs gs u =
@@ -204,7 +167,8 @@ law6-shrinks f g gs rest i e v u = of-shape e u λ ok.
       forms = omega arith;
       cells = omega arith;
       bytes = omega (arith, dotted-put g rest (c .isForm), commas gs);
-      areForms = j .areForms }
+      areForms = j .areForms;
+    }
 
 fits6 : (fs gs : Forms) → fit6 fs ≡ some gs → PartsShrink 1 fs gs
 fits6 fs gs u =
@@ -223,7 +187,8 @@ law7-shrinks f f1 f2 more rest e u = of-shape e u λ ok.
       forms = omega (arith, form-counted f);
       cells = omega arith;
       bytes = omega arith;
-      areForms = ((tt, ok .1 .0 .1 .1), ok .1 .1) }
+      areForms = ((tt, ok .1 .0 .1 .1), ok .1 .1);
+    }
 
 fits7 : (fs gs : Forms) → fit7 fs ≡ some gs → PartsShrink 1 fs gs
 fits7 fs gs u =
@@ -253,7 +218,8 @@ law10-shrinks a f gs rest e u = of-shape e u λ ok.
       forms = omega (arith, form-counted a);
       cells = omega arith;
       bytes = omega (arith, commas gs);
-      areForms = ((tt, (ok .1 .0 .1 .0, ok .1 .0 .1 .1 .0 .1)), ok .1 .1) }
+      areForms = ((tt, (ok .1 .0 .1 .0, ok .1 .0 .1 .1 .0 .1)), ok .1 .1);
+    }
 
 fits10 : (fs gs : Forms) → fit10 fs ≡ some gs → PartsShrink 1 fs gs
 fits10 fs gs u =
@@ -268,19 +234,6 @@ fits10 fs gs u =
 
 whole-shape : {f f′ g g′ : Form} → f ≡ f′ → some g′ ≡ some g → Shrinks f′ g′ → Shrinks f g
 whole-shape {f} {f′} {g} {g′} e u r = subst (λ (a : Form). Shrinks a g) (sym e) (subst (λ (b : Form). Shrinks f′ b) (some-inj u) r)
-
--- `f1.h` to `fn.h`, and f1 to fn
-data Ending (h : Form) : Forms → Forms → Type 0 where
-  none-more : Ending h stop stop
-  one-more : (f : Form) {cs fs : Forms} → Ending h cs fs → Ending h (chain (f & h & stop) & cs) (f & fs)
-
-ending : (h : Form) (cs fs : Forms) → endingIn h cs ≡ some fs → Ending h cs fs
-ending h stop fs u = subst (Ending h stop) (some-inj u) none-more
-ending h (c & cs) fs u =
-    let E = ends-in h c (λ f. onSome (endingIn h cs) (λ fs. some (f & fs))) fs u in
-    let R = something (endingIn h cs) (λ fs. some (E .f & fs)) fs (E .gives) in
-    subst (λ (b : Form). Ending h (b & cs) fs) (sym (E .is))
-      (subst (Ending h (chain (E .f & h & stop) & cs)) (some-inj (R .gives)) (one-more (E .f) (ending h cs (R .of) (R .is))))
 
 record WithoutEnds (cs fs : Forms) : Type 0 where
   forms : formsInAll fs ≤ formsInAll cs
@@ -318,7 +271,8 @@ end-taken-out {h} (one-more f (one-more g {fs = more} e)) many ok =
       cells = omega arith;
       bytes = omega arith;
       bracketed = omega arith;
-      isForm = then-put (construct (f & g & more)) h (tt, (ok .1 .0 .1 .0, (ok .1 .1 .0 .1 .0, s .areForms))) okh }
+      isForm = then-put (construct (f & g & more)) h (tt, (ok .1 .0 .1 .0, (ok .1 .1 .0 .1 .0, s .areForms))) okh;
+    }
 
 law3-shrinks : {c z : Form} (h : Form) (cs fs : Forms) → c ≡ construct cs → 2 ≤ count cs → endingIn h cs ≡ some fs →
     some (chain (construct fs & put h stop)) ≡ some z → Shrinks c z
@@ -344,7 +298,8 @@ law4-shrinks p f g h e u = whole-shape e u λ ok.
       cells = omega arith;
       bytes = omega arith;
       bracketed = omega arith;
-      isForm = then-put (condition p f g) h (ok .0 .1 .0, ok .1 .1 .0, ok .2 .1 .0) okh }
+      isForm = then-put (condition p f g) h (ok .0 .1 .0, ok .1 .1 .0, ok .2 .1 .0) okh;
+    }
 
 rewrites4 : (f g : Form) → rewrite4 f ≡ some g → Shrinks f g
 rewrites4 c z u =

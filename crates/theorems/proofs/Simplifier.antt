@@ -33,7 +33,8 @@ mutual
   beyond (name w) l i h = past (atRoot l (name w)) (λ j. none) i 0 h (λ j t. refl)
   beyond (constant x) l i h = past (atRoot l (constant x)) (λ j. none) i 0 h (λ j t. refl)
   beyond (chain fs) l i h = past (atRoot l (chain fs)) (λ j. aroundAll chain (useAmong true fs l j)) i (formsInAll fs) h (λ j t. ap (aroundAll chain) (beyond-all true fs l j t))
-  beyond (construct fs) l i h = past (atRoot l (construct fs)) (λ j. aroundAll construct (useAmong false fs l j)) i (formsInAll fs) h (λ j t. ap (aroundAll construct) (beyond-all false fs l j t))
+  beyond (construct fs) l i h =
+      past (atRoot l (construct fs)) (λ j. aroundAll construct (useAmong false fs l j)) i (formsInAll fs) h (λ j t. ap (aroundAll construct) (beyond-all false fs l j t))
   beyond (insert f) l i h = past (atRoot l (insert f)) (λ j. around insert (useAt f l j)) i (formsIn f) h (λ j t. ap (around insert) (beyond f l j t))
   beyond (applyAll f) l i h = past (atRoot l (applyAll f)) (λ j. around applyAll (useAt f l j)) i (formsIn f) h (λ j t. ap (around applyAll) (beyond f l j t))
   beyond (bu f x) l i h = past (atRoot l (bu f x)) (λ j. around (λ g. bu g x) (useAt f l j)) i (formsIn f) h (λ j t. ap (around (λ g. bu g x)) (beyond f l j t))
@@ -127,7 +128,8 @@ lowest-law : (ls : List Law) (i : ℕ) (P Q : Prog) → lowest ls i P ≡ some Q
 lowest-law [] i P Q u = none-some u
 lowest-law (l ∷ ls) i P Q u = go (applyLaw l i P) refl u (λ v. lowest-law ls i P Q v)
   where
-    go : (o : Option Prog) → applyLaw l i P ≡ o → elim o as (λ (o : Option Prog). Option Prog) [ some R ↦ some R | none ↦ lowest ls i P ] ≡ some Q → (lowest ls i P ≡ some Q → Lowest ls i P Q) → Lowest (l ∷ ls) i P Q
+    go : (o : Option Prog) → applyLaw l i P ≡ o → elim o as (λ (o : Option Prog). Option Prog) [ some R ↦ some R | none ↦ lowest ls i P ] ≡ some Q
+        → (lowest ls i P ≡ some Q → Lowest ls i P Q) → Lowest (l ∷ ls) i P Q
     go (some R) v u k = record { law = l; gives = v ∙ u; lower = []; higher = ls; among = refl; none-lower = tt }
     go none v u k =
         let K = k u in
@@ -137,7 +139,9 @@ least-place : (n i : ℕ) (P Q : Prog) → ((j : ℕ) → j < i → NoneAt j P) 
 least-place zero i P Q k u = none-some u
 least-place (suc n) i P Q k u = go (lowest laws i P) refl u (λ k v. least-place n (suc i) P Q k v)
   where
-    go : (o : Option Prog) → lowest laws i P ≡ o → elim o as (λ (o : Option Prog). Option Prog) [ some R ↦ some R | none ↦ least n (suc i) P ] ≡ some Q → (((j : ℕ) → j < suc i → NoneAt j P) → least n (suc i) P ≡ some Q → First P Q) → First P Q
+    go : (o : Option Prog) → lowest laws i P ≡ o
+        → elim o as (λ (o : Option Prog). Option Prog) [ some R ↦ some R | none ↦ least n (suc i) P ] ≡ some Q
+        → (((j : ℕ) → j < suc i → NoneAt j P) → least n (suc i) P ≡ some Q → First P Q) → First P Q
     go (some R) v u r =
         let L = lowest-law laws i P Q (v ∙ u) in
         record { law = L .law; place = i; gives = L .gives; least = k; lower = L .lower; higher = L .higher; among = L .among; lowest = L .none-lower }
@@ -154,7 +158,8 @@ by-rounds : (n u : ℕ) (P : Prog) → formsOf P ≤ n → Rounds u P (simplifyB
 by-rounds zero u P h = record { n = 0; counted = omega arith; series = noneLeft (λ i. none-beyond P i (omega arith)) }
 by-rounds (suc n) u P h = go (least (formsOf P) 0 P) refl (λ Q l. by-rounds n (suc u) Q l)
   where
-    go : (o : Option Prog) → least (formsOf P) 0 P ≡ o → ((Q : Prog) → formsOf Q ≤ n → Rounds (suc u) Q (simplifyBy n (suc u) Q)) → Rounds u P (elim o as (λ (o : Option Prog). Simplified) [ some Q ↦ simplifyBy n (suc u) Q | none ↦ record { program = P; uses = u } ])
+    go : (o : Option Prog) → least (formsOf P) 0 P ≡ o → ((Q : Prog) → formsOf Q ≤ n → Rounds (suc u) Q (simplifyBy n (suc u) Q))
+        → Rounds u P (elim o as (λ (o : Option Prog). Simplified) [ some Q ↦ simplifyBy n (suc u) Q | none ↦ record { program = P; uses = u } ])
     go none v k = record { n = 0; counted = omega arith; series = noneLeft (none-left (formsOf P) 0 P (omega arith) (λ j t. absurd (omega arith)) v) }
     go (some Q) v k =
         let F = least-place (formsOf P) 0 P Q (λ j t. absurd (omega arith)) v in

@@ -1,14 +1,13 @@
 -- One program for another: where each body of Q serves for that of P, everything that ends under P ends so under Q.
-use Prim.Native.Nat.{ℕ, zero, suc, _+_, _*_, _-_, _≤_}
-use mathlib.Core.Path.{_≡_, refl, sym, subst, _∙_}
+use Prim.Native.Nat.{ℕ}
+use mathlib.Core.Path.{_≡_, refl, subst}
 use mathlib.Core.List.{List}
 use mathlib.Core.Option.{Option, some, none}
-use Rattle.language.specs.Objects.{Obj, int, symbol, seq, Objs, nil, _::_, lengthOf, truthOf, isT, isF, neither}
-use Rattle.language.specs.Forms.{Word, Form, word, name, chain, construct, constant, insert, applyAll, bu, condition, while, Forms, stop, _&_, Def, Prog}
-use Rattle.language.specs.Meanings.{Edition, one, WordAnswer, falls, gives, meaning, pair}
+use Rattle.language.specs.Forms.{Form, Prog}
+use Rattle.language.specs.Meanings.{Edition}
 use Rattle.language.specs.Evaluation.{lookup}
-use Rattle.theorems.proofs.Ends.{Job, just, parts, items, each, fold, loop, Result, object, bottom, Ends, word-bottom, word-object, name-bottom, name-in, chain-in, construct-object, construct-bottom, constant-in, insert-fold, insert-nil, insert-int, insert-symbol, applyAll-object, applyAll-bottom, applyAll-int, applyAll-symbol, bu-in, condition-bottom, condition-no, condition-T, condition-F, while-in, parts-stop, parts-bottom, parts-go, items-stop, items-bottom, items-late, items-go, each-nil, each-bottom, each-late, each-go, fold-one, fold-bottom, fold-go, loop-bottom, loop-no, loop-F, loop-fell, loop-go}
-use Rattle.theorems.proofs.Congruence.{Rel, Closed, Better, Sub, SubF}
+use Rattle.theorems.proofs.Ends.{Job, Result, Ends, word-bottom, word-object, name-bottom, name-in, chain-in, construct-object, construct-bottom, constant-in, insert-fold, insert-nil, insert-int, insert-symbol, applyAll-object, applyAll-bottom, applyAll-int, applyAll-symbol, bu-in, condition-bottom, condition-no, condition-T, condition-F, while-in, parts-stop, parts-bottom, parts-go, items-stop, items-bottom, items-late, items-go, each-nil, each-bottom, each-late, each-go, fold-one, fold-bottom, fold-go, loop-bottom, loop-no, loop-F, loop-fell, loop-go}
+use Rattle.theorems.proofs.Congruence.{Rel, Closed, Better, SubF}
 
 module _ (e : Edition) (P Q : Prog) (R : Rel) (k : Closed R) where
   -- what a name has in the two programs
