@@ -110,13 +110,13 @@ withProgram program lent k =
 unfoldable pub lawCall : (program : List ℕ) → (law place : ℕ) → Lent → Outcome
 lawCall program law place lent =
     withProgram program lent (λ P.
-      elim (lawNumbered law) [
-        | none ↦ unwritten lent (bare 15)
-        | some l ↦ elim (applyLaw l place P) [
-          | none ↦ unwritten lent (bare 14)
-          | some Q ↦ rewritten lent 1 Q
-        ]
-      ])
+    elim (lawNumbered law) [
+      | none ↦ unwritten lent (bare 15)
+      | some l ↦ elim (applyLaw l place P) [
+        | none ↦ unwritten lent (bare 14)
+        | some Q ↦ rewritten lent 1 Q
+      ]
+    ])
 
 -- The simplifier leaves out 15 and 14.
 unfoldable pub simplifyCall : (program : List ℕ) → Lent → Outcome

@@ -68,10 +68,10 @@ unfoldable mutual
   pub readObj : ℕ → List ℕ → ℕ → ℕ → Got Obj
   readObj zero s at room = no 6 (length s)
   readObj (suc k) s at room =
-    let p = placeFrom s at in
-    let sequence = opens p room (λ a. insideSequence s a (λ a. readObjs k s a (room - 1))) in
-    let atom = asJudged s p (judgeAtom (wordAt s p)) in
-    cond (eqb (byteAt s p) (code "<")) sequence atom
+      let p = placeFrom s at in
+      let sequence = opens p room (λ a. insideSequence s a (λ a. readObjs k s a (room - 1))) in
+      let atom = asJudged s p (judgeAtom (wordAt s p)) in
+      cond (eqb (byteAt s p) (code "<")) sequence atom
 
   pub readObjs : ℕ → List ℕ → ℕ → ℕ → Got Objs
   readObjs zero s at room = no 6 (length s)
@@ -144,22 +144,22 @@ unfoldable mutual
   pub readPart : ℕ → List ℕ → ℕ → ℕ → Got Form
   readPart zero s at room = no 6 (length s)
   readPart (suc k) s at room =
-    let p = placeFrom s at in
-    let b = byteAt s p in
-    let construct′ = opens p room (λ a. andThen (readForms k s a (room - 1)) (λ fs e. got (construct fs) e)) in
-    let constant′ = opens p room (λ a. andThen (readObj k s a (room - 1)) (λ x e. got (constant x) e)) in
-    let insert′ = opens p room (λ a. andThen (readPart k s a (room - 1)) (λ f e. got (insert f) e)) in
-    let applyAll′ = opens p room (λ a. andThen (readPart k s a (room - 1)) (λ f e. got (applyAll f) e)) in
-    let bu′ = opens p room (λ a. andThen (readPart k s a (room - 1)) (λ f e. mark (code ",") s e (λ a. andThen (readObj k s a (room - 1)) (λ x e. mark (code "}") s e (λ a. got (bu f x) a))))) in
-    let round′ = opens p room (λ a. andThen (readForm k s a (room - 1)) (λ f e. afterTest s f e (λ a. readForm k s a (room - 1)))) in
-    let plain′ = asJudged s p (judgePart (wordAt s p)) in
-    cond (eqb b (code "[")) construct′
-    (cond (eqb b (code "%")) constant′
-    (cond (eqb b (code "/")) insert′
-    (cond (eqb b (code "@")) applyAll′
-    (cond (eqb b (code "{")) bu′
-    (cond (eqb b (code "(")) round′
-    plain′)))))
+      let p = placeFrom s at in
+      let b = byteAt s p in
+      let construct′ = opens p room (λ a. andThen (readForms k s a (room - 1)) (λ fs e. got (construct fs) e)) in
+      let constant′ = opens p room (λ a. andThen (readObj k s a (room - 1)) (λ x e. got (constant x) e)) in
+      let insert′ = opens p room (λ a. andThen (readPart k s a (room - 1)) (λ f e. got (insert f) e)) in
+      let applyAll′ = opens p room (λ a. andThen (readPart k s a (room - 1)) (λ f e. got (applyAll f) e)) in
+      let bu′ = opens p room (λ a. andThen (readPart k s a (room - 1)) (λ f e. mark (code ",") s e (λ a. andThen (readObj k s a (room - 1)) (λ x e. mark (code "}") s e (λ a. got (bu f x) a))))) in
+      let round′ = opens p room (λ a. andThen (readForm k s a (room - 1)) (λ f e. afterTest s f e (λ a. readForm k s a (room - 1)))) in
+      let plain′ = asJudged s p (judgePart (wordAt s p)) in
+      cond (eqb b (code "[")) construct′
+      (cond (eqb b (code "%")) constant′
+      (cond (eqb b (code "/")) insert′
+      (cond (eqb b (code "@")) applyAll′
+      (cond (eqb b (code "{")) bu′
+      (cond (eqb b (code "(")) round′
+      plain′)))))
 
 -- a definition, with the place of its name
 pub record Placed : Type 0 where

@@ -44,13 +44,13 @@ abbrev mutual
   useAt (bu f x) l i = place i (atRoot l (bu f x)) (λ j. around (λ f′. bu f′ x) (useAt f l j))
   useAt (condition p f g) l i =
       place i (atRoot l (condition p f g)) (λ j.
-        within j (formsIn p) (λ j. around (λ p′. condition p′ f g) (useAt p l j)) (λ j.
-        within j (formsIn f) (λ j. around (λ f′. condition p f′ g) (useAt f l j)) (λ j.
-        around (λ g′. condition p f g′) (useAt g l j))))
+      within j (formsIn p) (λ j. around (λ p′. condition p′ f g) (useAt p l j)) (λ j.
+      within j (formsIn f) (λ j. around (λ f′. condition p f′ g) (useAt f l j)) (λ j.
+      around (λ g′. condition p f g′) (useAt g l j))))
   useAt (while p f) l i =
       place i (atRoot l (while p f)) (λ j.
-        within j (formsIn p) (λ j. around (λ p′. while p′ f) (useAt p l j)) (λ j.
-        around (λ f′. while p f′) (useAt f l j)))
+      within j (formsIn p) (λ j. around (λ p′. while p′ f) (useAt p l j)) (λ j.
+      around (λ f′. while p f′) (useAt f l j)))
 
   pub useAmong : Bool → Forms → Law → ℕ → Option Forms
   useAmong b stop l j = none
