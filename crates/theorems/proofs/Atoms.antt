@@ -1,19 +1,18 @@
 -- What is written of an integer or a symbol is judged to be it.
-use mathlib.Core.Path.{_≡_, refl, ap, sym, _∙_}
-use mathlib.Core.Bool.{Bool, true, false, cond, and-eq-true-iff}
+use mathlib.Core.Path.{_≡_, refl, _∙_}
+use mathlib.Core.Bool.{Bool, true, false, and-eq-true-iff}
 use mathlib.Core.List.{List, [], _∷_, _++_}
-use Prim.Native.Nat.{ℕ, zero, suc, _+_, _≤_, _<_}
+use Prim.Native.Nat.{ℕ, suc, _≤_, _<_}
 use native.Mathlib.Omega.{arith}
 use borrow.Author.Tests.{ne-eqb, le-leb}
-use lib.Dec.{leb, eqb}
-use lib.IntN.{ℤ, pos, negsuc, negℤ}
+use lib.IntN.{ℤ, pos, negsuc}
 use lib.ListN.{length, getD, drop}
-use Rattle.language.specs.Objects.{Obj, int, symbol, seq, Objs}
-use Rattle.language.specs.Tokens.{isBlank, isDigit, isLetter, isWordByte, span, sizeAt}
-use Rattle.language.specs.Judging.{all, isSymbolByte, Judged, is, valueOf, judgeWord, judgeInteger, judgeNegative, judgeAtom}
-use Rattle.language.specs.Writing.{decimal, writeInteger, writeObj}
+use Rattle.language.specs.Objects.{int, symbol}
+use Rattle.language.specs.Tokens.{isBlank, isDigit, isWordByte, span, sizeAt}
+use Rattle.language.specs.Judging.{all, isSymbolByte, is, valueOf, judgeWord, judgeInteger, judgeNegative, judgeAtom}
+use Rattle.language.specs.Writing.{decimal, writeInteger}
 use Rattle.language.specs.Accepted.{IsInteger, IsSymbol}
-use Rattle.theorems.proofs.Texts.{all-cons, all-weaken, cons-of, digit-range, upper-range, not-blank, upper-no-digit, upper-letter, upper-symbol, digit-word, symbol-word, size-word, size-dash}
+use Rattle.theorems.proofs.Texts.{all-cons, all-weaken, digit-range, upper-range, not-blank, upper-no-digit, upper-letter, upper-symbol, digit-word, symbol-word, size-word, size-dash}
 use Rattle.theorems.proofs.Decimals.{decimal-digits, decimal-value, decimal-long, decimal-zero, decimal-plain}
 
 digit-atom : (w : List ℕ) → all isDigit w ≡ true → 0 < length w → judgeAtom w ≡ judgeInteger w
@@ -25,7 +24,8 @@ positive-judged : (n : ℕ) → n ≤ 2147483647 → judgeInteger (decimal n) �
 unfolding judgeInteger
 positive-judged n h = rw (decimal-digits n, decimal-plain n, decimal-value n, le-leb n 2147483647 h)
 
-negative-judged : (n : ℕ) (w : List ℕ) → all isDigit w ≡ true → 0 < length w → (getD w 0 0 ≡ 48 → ⊥) → valueOf w ≡ suc n → n ≤ 2147483647 → judgeNegative w ≡ is (int (negsuc n))
+negative-judged : (n : ℕ) (w : List ℕ) → all isDigit w ≡ true → 0 < length w → (getD w 0 0 ≡ 48 → ⊥) → valueOf w ≡ suc n → n ≤ 2147483647 →
+    judgeNegative w ≡ is (int (negsuc n))
 unfolding judgeNegative
 negative-judged n [] d l z v h = absurd (omega arith)
 negative-judged n (b ∷ a) d l z v h = rw (d, ne-eqb b 48 z, v, le-leb (suc n) 2147483648 (omega arith))

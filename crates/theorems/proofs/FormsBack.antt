@@ -1,28 +1,25 @@
 -- What is written of a form reads back, as a form and as a part.
-use mathlib.Core.Path.{_≡_, refl, ap, sym, _∙_}
-use mathlib.Core.Bool.{Bool, true, false, cond, and-eq-true-iff}
+use mathlib.Core.Path.{_≡_, refl}
+use mathlib.Core.Bool.{true, false}
 use mathlib.Core.List.{List, [], _∷_, _++_, append-assoc, append-nil}
-use Prim.Native.Nat.{ℕ, zero, suc, max, _+_, _-_, _*_, _≤_, _<_}
+use Prim.Native.Nat.{ℕ, suc, max, _+_, _-_, _≤_, _<_}
+use native.Mathlib.Nat.{max-zero}
 use native.Mathlib.Omega.{arith}
-use borrow.Author.Tests.{eq-eqb, ne-eqb}
-use lib.Dec.{leb, eqb}
-use lib.ListN.{length, getD, drop, length-append}
+use borrow.Author.Tests.{ne-eqb}
+use lib.ListN.{length, drop, length-append}
 use Rattle.language.specs.Objects.{Obj}
 use Rattle.language.specs.Forms.{Form, word, name, chain, construct, constant, insert, applyAll, bu, condition, while, Forms, stop, _&_}
-use Rattle.language.specs.Tokens.{isBlank, isWordByte, span, sizeAt}
-use Rattle.language.specs.Judging.{all, isNameByte, is, judgePart}
+use Rattle.language.specs.Tokens.{isWordByte}
+use Rattle.language.specs.Judging.{isNameByte, judgePart}
 use Rattle.language.specs.Reading.{Got, got, andThen, asJudged, wordAt, opens, mark, afterTest, afterPart, afterParts, afterForm, readForm, readParts, readForms, readPart, readObj}
-use Rattle.language.specs.Writing.{writeObj, writeWord, isChain, bracketed, writeForm, writeParts, writeMoreParts, writeForms, writeMoreForms, marksOfObj, bracketMarks, marksOf, marksOfParts, marksOfForms}
+use Rattle.language.specs.Writing.{writeObj, writeWord, isChain, bracketed, writeForm, writeParts, writeForms, marksOfObj, bracketMarks, marksOf, marksOfParts, marksOfForms}
 use Rattle.language.specs.Accepted.{IsObj, IsForm, AreForms, OneOrMore, TwoOrMore}
-use Rattle.theorems.proofs.Texts.{byte-here, place-here, drop-past, drop-one, span-none, cons-of, all-weaken, name-word, size-word, judged-here, mark-here, opens-here}
-use Rattle.theorems.proofs.ObjectsBack.{suc-of, obj-back}
-use Rattle.theorems.proofs.WordsBack.{Plain, name-byte-no, name-byte-no-blank, word-plain, name-plain}
+use Rattle.theorems.proofs.Texts.{byte-here, place-here, drop-past, drop-one, span-none, judged-here, mark-here}
+use Rattle.theorems.proofs.Readers.{Reader, Reads, EndsWord, EndsForm, ends-word, suc-of, closed, joined}
+use Rattle.theorems.proofs.ObjectsBack.{obj-back}
+use Rattle.theorems.proofs.WordsBack.{Plain, name-byte-no, name-byte-no-blank, plain-begins, plain-size, word-plain, name-plain}
 
 -- ---- what reading does at a place
-
--- what may follow a form: no letter or digit, no blank and no dot
-abbrev pub Closes : ℕ → Type 0
-Closes c = (isWordByte c ≡ false) × (isBlank c ≡ false) × (eqb c 46 ≡ false)
 
 module _ (s : List ℕ) (at room k : ℕ) where
   plain-read : (b : ℕ) (l : List ℕ) → drop at s ≡ b ∷ l → isNameByte b ≡ true → readPart (suc k) s at room ≡ asJudged s at (judgePart (wordAt s at))
@@ -71,95 +68,62 @@ module _ (s : List ℕ) (p : Form) (e : ℕ) (form : ℕ → Got Form) (l : List
   unfolding afterTest
   arrow-read d = rw (place-here s e 45 (62 ∷ l) d refl, byte-here s e 45 (62 ∷ l) d, byte-here s (e + 1) 62 l (drop-one s e 45 (62 ∷ l) d))
 
-module _ (s : List ℕ) (f : Form) (e : ℕ) (rest : ℕ → Got Forms) (l : List ℕ) where
-  part-ends : (c : ℕ) → Closes c → drop e s ≡ c ∷ l → afterPart s f e rest ≡ got f e
-  unfolding afterPart
-  part-ends c h d = rw (place-here s e c l d (h .1), byte-here s e c l d, h .2)
+module _ (f : Form) (s : List ℕ) (at room k e : ℕ) (l : List ℕ) where
+  module _ (read : readPart k s at room ≡ got f e) where
+    first-part : drop e s ≡ 46 ∷ l → readForm (suc k) s at room ≡ andThen (readParts k s (e + 1) room) (λ fs e. got (chain (f & fs)) e)
+    unfolding readForm afterPart
+    first-part d = rw (read, place-here s e 46 l d refl, byte-here s e 46 l d)
 
-  part-goes-on : drop e s ≡ 46 ∷ l → afterPart s f e rest ≡ andThen (rest (e + 1)) (λ fs e. got (chain (f & fs)) e)
-  unfolding afterPart
-  part-goes-on d = rw (place-here s e 46 l d refl, byte-here s e 46 l d)
+    later-part : drop e s ≡ 46 ∷ l → readParts (suc k) s at room ≡ andThen (readParts k s (e + 1) room) (λ fs e. got (f & fs) e)
+    unfolding readParts afterParts
+    later-part d = rw (read, place-here s e 46 l d refl, byte-here s e 46 l d)
 
-  parts-end : (c : ℕ) → Closes c → drop e s ≡ c ∷ l → afterParts s f e rest ≡ got (f & stop) e
-  unfolding afterParts
-  parts-end c h d = rw (place-here s e c l d (h .1), byte-here s e c l d, h .2)
+    only-part : (c : ℕ) → drop e s ≡ c ∷ l → EndsForm (c ∷ l) → readForm (suc k) s at room ≡ got f e
+    unfolding readForm afterPart
+    only-part c d h = rw (read, place-here s e c l d (h .1), byte-here s e c l d, h .2)
 
-  parts-go-on : drop e s ≡ 46 ∷ l → afterParts s f e rest ≡ andThen (rest (e + 1)) (λ fs e. got (f & fs) e)
-  unfolding afterParts
-  parts-go-on d = rw (place-here s e 46 l d refl, byte-here s e 46 l d)
+    last-part : (c : ℕ) → drop e s ≡ c ∷ l → EndsForm (c ∷ l) → readParts (suc k) s at room ≡ got (f & stop) e
+    unfolding readParts afterParts
+    last-part c d h = rw (read, place-here s e c l d (h .1), byte-here s e c l d, h .2)
 
-  forms-end : drop e s ≡ 93 ∷ l → afterForm s f e rest ≡ got (f & stop) (e + 1)
-  unfolding afterForm
-  forms-end d = rw (place-here s e 93 l d refl, byte-here s e 93 l d)
+  module _ (read : readForm k s at room ≡ got f e) where
+    last-form : drop e s ≡ 93 ∷ l → readForms (suc k) s at room ≡ got (f & stop) (e + 1)
+    unfolding readForms afterForm
+    last-form d = rw (read, place-here s e 93 l d refl, byte-here s e 93 l d)
 
-  forms-go-on : drop e s ≡ 44 ∷ l → afterForm s f e rest ≡ andThen (rest (e + 1)) (λ fs e. got (f & fs) e)
-  unfolding afterForm
-  forms-go-on d = rw (place-here s e 44 l d refl, byte-here s e 44 l d)
+    later-form : drop e s ≡ 44 ∷ l → readForms (suc k) s at room ≡ andThen (readForms k s (e + 1) room) (λ fs e. got (f & fs) e)
+    unfolding readForms afterForm
+    later-form d = rw (read, place-here s e 44 l d refl, byte-here s e 44 l d)
 
--- ---- what is read, whatever follows
+-- ---- parts
 
 abbrev ReadsPart : List ℕ → ℕ → Form → Type 0
-ReadsPart w m f =
-    (s : List ℕ) (at room k : ℕ) (l : List ℕ) → drop at s ≡ w ++ l → span isWordByte l ≡ 0 → m ≤ room → 3 * length w < k → readPart k s at room ≡ got f (at + length w)
+ReadsPart w m f = Reads readPart EndsWord 0 w m f
 
 abbrev ReadsForm : List ℕ → ℕ → Form → Type 0
-ReadsForm w m f =
-    (s : List ℕ) (at room k c : ℕ) (l : List ℕ) → drop at s ≡ w ++ c ∷ l → Closes c → m ≤ room → 3 * length w + 1 < k → readForm k s at room ≡ got f (at + length w)
+ReadsForm w m f = Reads readForm EndsForm 1 w m f
 
-abbrev ReadsParts : List ℕ → ℕ → Forms → Type 0
-ReadsParts w m fs =
-    (s : List ℕ) (at room k c : ℕ) (l : List ℕ) → drop at s ≡ w ++ c ∷ l → Closes c → m ≤ room → 3 * length w + 1 < k → readParts k s at room ≡ got fs (at + length w)
+abbrev ReadsParts : Forms → Type 0
+ReadsParts fs = Reads readParts EndsForm 1 (writeParts fs) (marksOfParts fs) fs
 
-abbrev ReadsForms : List ℕ → ℕ → Forms → Type 0
-ReadsForms w m fs =
-    (s : List ℕ) (at room k : ℕ) (l : List ℕ) → drop at s ≡ w ++ l → m ≤ room → 3 * length w + 2 < k → readForms k s at room ≡ got fs (at + length w)
-
-pub record Back (f : Form) : Type 0 where
-  pub part : ReadsPart (bracketed f (writeForm f)) (bracketMarks f (marksOf f)) f
-  pub form : ReadsForm (writeForm f) (marksOf f) f
-
-abbrev AllBack : Forms → Type 0
-AllBack stop = Unit {0}
-AllBack (f & fs) = Back f × AllBack fs
+abbrev ReadsForms : Forms → Type 0
+ReadsForms fs = Reads readForms EndsWord 2 (writeForms fs) (marksOfForms fs) fs
 
 plain-part : (w : List ℕ) (f : Form) → Plain w f → ReadsPart w 0 f
 plain-part w f g s at room k l d e m n =
     let i = suc-of k (omega arith) in
-    let c = cons-of w (g .long) in
-    let h : isNameByte (c .0) ≡ true = and-eq-true-iff (isNameByte (c .0)) (all isNameByte (c .1)) .0 (rw (c .2) at (g .bytes)) .0 in
-    let z = size-word s at l e w d (all-weaken isNameByte isWordByte name-word w (g .bytes)) (g .long) in
-    rw (i .1, plain-read s at room (i .0) (c .0) (c .1 ++ l) (rw (c .2) at d) h) (judged-here judgePart f s at w l d z (g .judged))
+    let c = plain-begins w f g in
+    rw (i .1, plain-read s at room (i .0) (c .0) (c .1 ++ l) (rw (c .2) at d) (c .3)) (judged-here judgePart f s at w l d (plain-size s at l w f e g d) (g .judged))
 
--- ---- parts that begin with a mark
-
-construct-part : (w : List ℕ) (m : ℕ) (fs : Forms) → ReadsForms w m fs → ReadsPart (91 ∷ w) (suc m) (construct fs)
-construct-part w m fs r s at room k l d e n b =
+-- a mark and what `read` reads behind it
+prefix : {A : Type 0} (c : ℕ) (read : Reader A) (build : A → Form) (n : ℕ) (w : List ℕ) (m : ℕ) (a : A) → n ≤ 2 →
+    ((s : List ℕ) (at room k : ℕ) (l : List ℕ) → 0 < room → drop at s ≡ c ∷ l → readPart (suc k) s at room ≡ andThen (read k s (at + 1) (room - 1)) (λ a e. got (build a) e)) →
+    Reads read EndsWord n w m a → ReadsPart (c ∷ w) (suc m) (build a)
+prefix c read build n w m a z opened r s at room k l d e h b =
     let i = suc-of k (omega arith) in
-    let g = r s (at + 1) (room - 1) (i .0) l (drop-one s at 91 (w ++ l) d) (omega arith) (omega (arith, i .1)) in
+    let g = r s (at + 1) (room - 1) (i .0) l (drop-one s at c (w ++ l) d) e (omega arith) (omega (arith, i .1)) in
     let y : at + 1 + length w ≡ at + suc (length w) = omega arith in
-    rw (i .1, construct-read s at room (i .0) (w ++ l) (omega arith) d, g, y)
-
-constant-part : (x : Obj) → IsObj x → ReadsPart (37 ∷ writeObj x) (suc (marksOfObj x)) (constant x)
-constant-part x h s at room k l d e n b =
-    let w = writeObj x in
-    let i = suc-of k (omega arith) in
-    let g = obj-back x s (at + 1) (room - 1) (i .0) l (drop-one s at 37 (w ++ l) d) e h (omega arith) (omega (arith, i .1)) in
-    let y : at + 1 + length w ≡ at + suc (length w) = omega arith in
-    rw (i .1, constant-read s at room (i .0) (w ++ l) (omega arith) d, g, y)
-
-insert-part : (w : List ℕ) (m : ℕ) (f : Form) → ReadsPart w m f → ReadsPart (47 ∷ w) (suc m) (insert f)
-insert-part w m f r s at room k l d e n b =
-    let i = suc-of k (omega arith) in
-    let g = r s (at + 1) (room - 1) (i .0) l (drop-one s at 47 (w ++ l) d) e (omega arith) (omega (arith, i .1)) in
-    let y : at + 1 + length w ≡ at + suc (length w) = omega arith in
-    rw (i .1, insert-read s at room (i .0) (w ++ l) (omega arith) d, g, y)
-
-applyAll-part : (w : List ℕ) (m : ℕ) (f : Form) → ReadsPart w m f → ReadsPart (64 ∷ w) (suc m) (applyAll f)
-applyAll-part w m f r s at room k l d e n b =
-    let i = suc-of k (omega arith) in
-    let g = r s (at + 1) (room - 1) (i .0) l (drop-one s at 64 (w ++ l) d) e (omega arith) (omega (arith, i .1)) in
-    let y : at + 1 + length w ≡ at + suc (length w) = omega arith in
-    rw (i .1, applyAll-read s at room (i .0) (w ++ l) (omega arith) d, g, y)
+    rw (i .1, opened s at room (i .0) (w ++ l) (omega arith) d, g, y)
 
 bu-part : (w : List ℕ) (m : ℕ) (f : Form) (x : Obj) → ReadsPart w m f → IsObj x → ReadsPart (123 ∷ (w ++ 44 ∷ (writeObj x ++ 125 ∷ []))) (suc (max m (marksOfObj x))) (bu f x)
 bu-part w m f x r h s at room k l d e n b =
@@ -173,7 +137,7 @@ bu-part w m f x r h s at room k l d e n b =
     let e₁ = at + 1 + length w in
     let d₂ = drop-past s (at + 1) w (44 ∷ (v ++ 125 ∷ l)) d₁ in
     let d₃ = drop-one s e₁ 44 (v ++ 125 ∷ l) d₂ in
-    let o = obj-back x s (e₁ + 1) (room - 1) (i .0) (125 ∷ l) d₃ (span-none isWordByte 125 l refl) h (omega arith) (omega (arith, i .1)) in
+    let o = obj-back x h s (e₁ + 1) (room - 1) (i .0) (125 ∷ l) d₃ (span-none isWordByte 125 l refl) (omega arith) (omega (arith, i .1)) in
     let e₂ = e₁ + 1 + length v in
     let d₄ = drop-past s (e₁ + 1) v (125 ∷ l) d₃ in
     let y : e₂ + 1 ≡ at + suc (length (w ++ 44 ∷ (v ++ 125 ∷ []))) = omega arith in
@@ -187,23 +151,24 @@ bracket-part w m f r s at room k l d e n b =
     let t = length-append w (41 ∷ []) in
     let d₀ : drop at s ≡ 40 ∷ (w ++ 41 ∷ l) = simp append-assoc at d in
     let d₁ = drop-one s at 40 (w ++ 41 ∷ l) d₀ in
-    let g = r s (at + 1) (room - 1) (i .0) 41 l d₁ (refl, refl, refl) (omega arith) (omega (arith, i .1)) in
+    let g = r s (at + 1) (room - 1) (i .0) (41 ∷ l) d₁ (refl, refl, refl) (omega arith) (omega (arith, i .1)) in
     let y : at + 1 + length w + 1 ≡ at + suc (length (w ++ 41 ∷ [])) = omega arith in
     rw (i .1, round-read s at room (i .0) (w ++ 41 ∷ l) (omega arith) d₀, g, andThen,
         close-read s f (at + 1 + length w) (λ a. readForm (i .0) s a (room - 1)) l (drop-past s (at + 1) w (41 ∷ l) d₁), y)
 
-while-part : (w : List ℕ) (m : ℕ) (p : Form) (w′ : List ℕ) (m′ : ℕ) (f : Form) → ReadsForm w m p → ReadsForm w′ m′ f → ReadsPart (40 ∷ (w ++ 63 ∷ (w′ ++ 41 ∷ []))) (suc (max m m′)) (while p f)
+while-part : (w : List ℕ) (m : ℕ) (p : Form) (w′ : List ℕ) (m′ : ℕ) (f : Form) →
+    ReadsForm w m p → ReadsForm w′ m′ f → ReadsPart (40 ∷ (w ++ 63 ∷ (w′ ++ 41 ∷ []))) (suc (max m m′)) (while p f)
 while-part w m p w′ m′ f r r′ s at room k l d e n b =
     let i = suc-of k (omega arith) in
     let t = length-append w (63 ∷ (w′ ++ 41 ∷ [])) in
     let u = length-append w′ (41 ∷ []) in
     let d₀ : drop at s ≡ 40 ∷ (w ++ 63 ∷ (w′ ++ 41 ∷ l)) = simp append-assoc at d in
     let d₁ = drop-one s at 40 (w ++ 63 ∷ (w′ ++ 41 ∷ l)) d₀ in
-    let g = r s (at + 1) (room - 1) (i .0) 63 (w′ ++ 41 ∷ l) d₁ (refl, refl, refl) (omega arith) (omega (arith, i .1)) in
+    let g = r s (at + 1) (room - 1) (i .0) (63 ∷ (w′ ++ 41 ∷ l)) d₁ (refl, refl, refl) (omega arith) (omega (arith, i .1)) in
     let e₁ = at + 1 + length w in
     let d₂ = drop-past s (at + 1) w (63 ∷ (w′ ++ 41 ∷ l)) d₁ in
     let d₃ = drop-one s e₁ 63 (w′ ++ 41 ∷ l) d₂ in
-    let g′ = r′ s (e₁ + 1) (room - 1) (i .0) 41 l d₃ (refl, refl, refl) (omega arith) (omega (arith, i .1)) in
+    let g′ = r′ s (e₁ + 1) (room - 1) (i .0) (41 ∷ l) d₃ (refl, refl, refl) (omega arith) (omega (arith, i .1)) in
     let e₂ = e₁ + 1 + length w′ in
     let d₄ = drop-past s (e₁ + 1) w′ (41 ∷ l) d₃ in
     let y : e₂ + 1 ≡ at + suc (length (w ++ 63 ∷ (w′ ++ 41 ∷ []))) = omega arith in
@@ -211,8 +176,8 @@ while-part w m p w′ m′ f r r′ s at room k l d e n b =
         loop-read s p e₁ (λ a. readForm (i .0) s a (room - 1)) (w′ ++ 41 ∷ l) d₂, g′, andThen,
         mark-here 41 s e₂ (λ a. got (while p f) a) l d₄ refl, y)
 
-condition-part : (w : List ℕ) (m : ℕ) (p : Form) (w′ : List ℕ) (m′ : ℕ) (f : Form) (w″ : List ℕ) (m″ : ℕ) (g : Form) → ReadsForm w m p → ReadsForm w′ m′ f → ReadsForm w″ m″ g →
-    ReadsPart (40 ∷ (w ++ 45 ∷ 62 ∷ (w′ ++ 59 ∷ (w″ ++ 41 ∷ [])))) (suc (max m (max m′ m″))) (condition p f g)
+condition-part : (w : List ℕ) (m : ℕ) (p : Form) (w′ : List ℕ) (m′ : ℕ) (f : Form) (w″ : List ℕ) (m″ : ℕ) (g : Form) →
+    ReadsForm w m p → ReadsForm w′ m′ f → ReadsForm w″ m″ g → ReadsPart (40 ∷ (w ++ 45 ∷ 62 ∷ (w′ ++ 59 ∷ (w″ ++ 41 ∷ [])))) (suc (max m (max m′ m″))) (condition p f g)
 condition-part w m p w′ m′ f w″ m″ g r r′ r″ s at room k l d e n b =
     let i = suc-of k (omega arith) in
     let l₃ = w″ ++ 41 ∷ l in
@@ -222,15 +187,15 @@ condition-part w m p w′ m′ f w″ m″ g r r′ r″ s at room k l d e n b =
     let t″ = length-append w″ (41 ∷ []) in
     let d₀ : drop at s ≡ 40 ∷ (w ++ 45 ∷ 62 ∷ l₂) = simp append-assoc at d in
     let d₁ = drop-one s at 40 (w ++ 45 ∷ 62 ∷ l₂) d₀ in
-    let gp = r s (at + 1) (room - 1) (i .0) 45 (62 ∷ l₂) d₁ (refl, refl, refl) (omega arith) (omega (arith, i .1)) in
+    let gp = r s (at + 1) (room - 1) (i .0) (45 ∷ 62 ∷ l₂) d₁ (refl, refl, refl) (omega arith) (omega (arith, i .1)) in
     let e₁ = at + 1 + length w in
     let d₂ = drop-past s (at + 1) w (45 ∷ 62 ∷ l₂) d₁ in
     let d₃ = drop-past s e₁ (45 ∷ 62 ∷ []) l₂ d₂ in
-    let gf = r′ s (e₁ + 2) (room - 1) (i .0) 59 l₃ d₃ (refl, refl, refl) (omega arith) (omega (arith, i .1)) in
+    let gf = r′ s (e₁ + 2) (room - 1) (i .0) (59 ∷ l₃) d₃ (refl, refl, refl) (omega arith) (omega (arith, i .1)) in
     let e₂ = e₁ + 2 + length w′ in
     let d₄ = drop-past s (e₁ + 2) w′ (59 ∷ l₃) d₃ in
     let d₅ = drop-one s e₂ 59 l₃ d₄ in
-    let gg = r″ s (e₂ + 1) (room - 1) (i .0) 41 l d₅ (refl, refl, refl) (omega arith) (omega (arith, i .1)) in
+    let gg = r″ s (e₂ + 1) (room - 1) (i .0) (41 ∷ l) d₅ (refl, refl, refl) (omega arith) (omega (arith, i .1)) in
     let e₃ = e₂ + 1 + length w″ in
     let d₆ = drop-past s (e₂ + 1) w″ (41 ∷ l) d₅ in
     let y : e₃ + 1 ≡ at + suc (length (w ++ 45 ∷ 62 ∷ (w′ ++ 59 ∷ (w″ ++ 41 ∷ [])))) = omega arith in
@@ -241,102 +206,55 @@ condition-part w m p w′ m′ f w″ m″ g r r′ r″ s at room k l d e n b =
 
 -- ---- forms
 
-single : (w : List ℕ) (m : ℕ) (f : Form) → ReadsPart w m f → ReadsForm w m f
-unfolding readForm
-single w m f r s at room k c l d h n b =
+pub record Back (f : Form) : Type 0 where
+  pub part : ReadsPart (bracketed f (writeForm f)) (bracketMarks f (marksOf f)) f
+  pub form : ReadsForm (writeForm f) (marksOf f) f
+
+abbrev AllBack : Forms → Type 0
+AllBack stop = Unit {0}
+AllBack (f & fs) = Back f × AllBack fs
+
+-- one part, and no dot behind it
+ended : {C : Type 0} (read : Reader C) (build : Form → C) (w : List ℕ) (m : ℕ) (f : Form) →
+    ((s : List ℕ) (at room k e : ℕ) (l : List ℕ) → readPart k s at room ≡ got f e → (c : ℕ) → drop e s ≡ c ∷ l → EndsForm (c ∷ l) → read (suc k) s at room ≡ got (build f) e) →
+    ReadsPart w m f → Reads read EndsForm 1 w m (build f)
+ended read build w m f step r s at room k [] d h n b = absurd h
+ended read build w m f step r s at room k (c ∷ l) d h n b =
     let i = suc-of k (omega arith) in
-    let g = r s at room (i .0) (c ∷ l) d (span-none isWordByte c l (h .0)) n (omega (arith, i .1)) in
-    rw (i .1, g, part-ends s f (at + length w) (λ a. readParts (i .0) s a room) l c h (drop-past s at w (c ∷ l) d))
+    rw (i .1) (step s at room (i .0) (at + length w) l (r s at room (i .0) (c ∷ l) d (ends-word (c ∷ l) h) n (omega (arith, i .1))) c (drop-past s at w (c ∷ l) d) h)
 
--- the first part of a chain, and more
-chain-form : (w : List ℕ) (m : ℕ) (f : Form) (w′ : List ℕ) (m′ : ℕ) (fs : Forms) → ReadsPart w m f → ReadsParts w′ m′ fs → ReadsForm (w ++ 46 ∷ w′) (max m m′) (chain (f & fs))
-unfolding readForm
-chain-form w m f w′ m′ fs r r′ s at room k c l d h n b =
-    let i = suc-of k (omega arith) in
-    let t = length-append w (46 ∷ w′) in
-    let d₀ : drop at s ≡ w ++ 46 ∷ (w′ ++ c ∷ l) = simp append-assoc at d in
-    let g = r s at room (i .0) (46 ∷ (w′ ++ c ∷ l)) d₀ (span-none isWordByte 46 (w′ ++ c ∷ l) refl) (omega arith) (omega (arith, i .1)) in
-    let e = at + length w in
-    let d₁ = drop-past s at w (46 ∷ (w′ ++ c ∷ l)) d₀ in
-    let g′ = r′ s (e + 1) room (i .0) c l (drop-one s e 46 (w′ ++ c ∷ l) d₁) h (omega arith) (omega (arith, i .1)) in
-    let y : e + 1 + length w′ ≡ at + length (w ++ 46 ∷ w′) = omega arith in
-    rw (i .1, g, part-goes-on s f e (λ a. readParts (i .0) s a room) (w′ ++ c ∷ l) d₁, g′, y)
+-- a form that isn't a chain is written alike as a part
+from-part : (f : Form) → isChain f ≡ false → ReadsPart (writeForm f) (marksOf f) f → Back f
+from-part f h r = record { part = rw h r; form = ended readForm (λ f. f) (writeForm f) (marksOf f) f (only-part f) r }
 
--- a later part that is the last, or not
-last-part : (w : List ℕ) (m : ℕ) (f : Form) → ReadsPart w m f → ReadsParts w m (f & stop)
-unfolding readParts
-last-part w m f r s at room k c l d h n b =
-    let i = suc-of k (omega arith) in
-    let g = r s at room (i .0) (c ∷ l) d (span-none isWordByte c l (h .0)) n (omega (arith, i .1)) in
-    rw (i .1, g, parts-end s f (at + length w) (λ a. readParts (i .0) s a room) l c h (drop-past s at w (c ∷ l) d))
-
-later-part : (w : List ℕ) (m : ℕ) (f : Form) (w′ : List ℕ) (m′ : ℕ) (fs : Forms) → ReadsPart w m f → ReadsParts w′ m′ fs → ReadsParts (w ++ 46 ∷ w′) (max m m′) (f & fs)
-unfolding readParts
-later-part w m f w′ m′ fs r r′ s at room k c l d h n b =
-    let i = suc-of k (omega arith) in
-    let t = length-append w (46 ∷ w′) in
-    let d₀ : drop at s ≡ w ++ 46 ∷ (w′ ++ c ∷ l) = simp append-assoc at d in
-    let g = r s at room (i .0) (46 ∷ (w′ ++ c ∷ l)) d₀ (span-none isWordByte 46 (w′ ++ c ∷ l) refl) (omega arith) (omega (arith, i .1)) in
-    let e = at + length w in
-    let d₁ = drop-past s at w (46 ∷ (w′ ++ c ∷ l)) d₀ in
-    let g′ = r′ s (e + 1) room (i .0) c l (drop-one s e 46 (w′ ++ c ∷ l) d₁) h (omega arith) (omega (arith, i .1)) in
-    let y : e + 1 + length w′ ≡ at + length (w ++ 46 ∷ w′) = omega arith in
-    rw (i .1, g, parts-go-on s f e (λ a. readParts (i .0) s a room) (w′ ++ c ∷ l) d₁, g′, y)
-
--- a form of `[ ]` that is the last, or not
-last-form : (w : List ℕ) (m : ℕ) (f : Form) → ReadsForm w m f → ReadsForms (w ++ 93 ∷ []) m (f & stop)
-unfolding readForms
-last-form w m f r s at room k l d n b =
-    let i = suc-of k (omega arith) in
-    let t = length-append w (93 ∷ []) in
-    let d₀ : drop at s ≡ w ++ 93 ∷ l = simp append-assoc at d in
-    let g = r s at room (i .0) 93 l d₀ (refl, refl, refl) n (omega (arith, i .1)) in
-    let y : at + length w + 1 ≡ at + length (w ++ 93 ∷ []) = omega arith in
-    rw (i .1, g, forms-end s f (at + length w) (λ a. readForms (i .0) s a room) l (drop-past s at w (93 ∷ l) d₀), y)
-
-later-form : (w : List ℕ) (m : ℕ) (f : Form) (w′ : List ℕ) (m′ : ℕ) (fs : Forms) → ReadsForm w m f → ReadsForms w′ m′ fs → ReadsForms (w ++ 44 ∷ w′) (max m m′) (f & fs)
-unfolding readForms
-later-form w m f w′ m′ fs r r′ s at room k l d n b =
-    let i = suc-of k (omega arith) in
-    let t = length-append w (44 ∷ w′) in
-    let d₀ : drop at s ≡ w ++ 44 ∷ (w′ ++ l) = simp append-assoc at d in
-    let g = r s at room (i .0) 44 (w′ ++ l) d₀ (refl, refl, refl) (omega arith) (omega (arith, i .1)) in
-    let e = at + length w in
-    let d₁ = drop-past s at w (44 ∷ (w′ ++ l)) d₀ in
-    let g′ = r′ s (e + 1) room (i .0) l (drop-one s e 44 (w′ ++ l) d₁) (omega arith) (omega (arith, i .1)) in
-    let y : e + 1 + length w′ ≡ at + length (w ++ 44 ∷ w′) = omega arith in
-    rw (i .1, g, forms-go-on s f e (λ a. readForms (i .0) s a room) (w′ ++ l) d₁, g′, y)
-
--- ---- by induction on forms
-
-max-zero : (n : ℕ) → max n 0 ≡ n
-max-zero n = omega arith
-
-parts-back : (f : Form) (fs : Forms) → AllBack (f & fs) → ReadsParts (writeParts (f & fs)) (marksOfParts (f & fs)) (f & fs)
+parts-back : (f : Form) (fs : Forms) → AllBack (f & fs) → ReadsParts (f & fs)
 unfolding writeParts
-parts-back f stop b = let w = bracketed f (writeForm f) in let m = bracketMarks f (marksOf f) in rw (append-nil w, max-zero m) (last-part w m f (b .0 .part))
+parts-back f stop b =
+    let w = bracketed f (writeForm f) in
+    let m = bracketMarks f (marksOf f) in
+    rw (append-nil w, max-zero m) (ended readParts (λ f. f & stop) w m f (last-part f) (b .0 .part))
 parts-back f (g & fs) b =
-    later-part (bracketed f (writeForm f)) (bracketMarks f (marksOf f)) f (writeParts (g & fs)) (marksOfParts (g & fs)) (g & fs) (b .0 .part) (parts-back g fs (b .1))
+    joined 46 readPart readParts readParts _&_ EndsWord EndsForm 0 (bracketed f (writeForm f)) (bracketMarks f (marksOf f)) f
+    (writeParts (g & fs)) (marksOfParts (g & fs)) (g & fs) (λ l. span-none isWordByte 46 l refl) (later-part f) (b .0 .part) (parts-back g fs (b .1))
 
 chain-back : (fs : Forms) → TwoOrMore fs → AllBack fs → ReadsForm (writeParts fs) (marksOfParts fs) (chain fs)
 unfolding writeParts
 chain-back stop h b = absurd h
 chain-back (f & stop) h b = absurd h
 chain-back (f & (g & fs)) h b =
-    chain-form (bracketed f (writeForm f)) (bracketMarks f (marksOf f)) f (writeParts (g & fs)) (marksOfParts (g & fs)) (g & fs) (b .0 .part) (parts-back g fs (b .1))
+    joined 46 readPart readParts readForm (λ f fs. chain (f & fs)) EndsWord EndsForm 0 (bracketed f (writeForm f)) (bracketMarks f (marksOf f)) f
+    (writeParts (g & fs)) (marksOfParts (g & fs)) (g & fs) (λ l. span-none isWordByte 46 l refl) (first-part f) (b .0 .part) (parts-back g fs (b .1))
 
-forms-back : (f : Form) (fs : Forms) → AllBack (f & fs) → ReadsForms (writeForms (f & fs)) (marksOfForms (f & fs)) (f & fs)
+forms-back : (f : Form) (fs : Forms) → AllBack (f & fs) → ReadsForms (f & fs)
 unfolding writeForms
-forms-back f stop b = rw (max-zero (marksOf f)) (last-form (writeForm f) (marksOf f) f (b .0 .form))
-forms-back f (g & fs) b = later-form (writeForm f) (marksOf f) f (writeForms (g & fs)) (marksOfForms (g & fs)) (g & fs) (b .0 .form) (forms-back g fs (b .1))
+forms-back f stop b = closed 93 readForm readForms (λ f. f & stop) EndsForm EndsWord 1 (writeForm f) (marksOf f) f (λ l. (refl, refl, refl)) (last-form f) (b .0 .form)
+forms-back f (g & fs) b =
+    joined 44 readForm readForms readForms _&_ EndsForm EndsWord 1 (writeForm f) (marksOf f) f (writeForms (g & fs)) (marksOfForms (g & fs)) (g & fs)
+    (λ l. (refl, refl, refl)) (later-form f) (b .0 .form) (forms-back g fs (b .1))
 
-construct-back : (fs : Forms) → OneOrMore fs → AllBack fs → ReadsForms (writeForms fs) (marksOfForms fs) fs
+construct-back : (fs : Forms) → OneOrMore fs → AllBack fs → ReadsForms fs
 construct-back stop h b = absurd h
 construct-back (f & fs) h b = forms-back f fs b
-
--- a form that isn't a chain is written alike as a part
-from-part : (f : Form) → isChain f ≡ false → ReadsPart (writeForm f) (marksOf f) f → Back f
-from-part f h r = record { part = rw h r; form = single (writeForm f) (marksOf f) f r }
 
 mutual
   unfolding writeForm
@@ -346,10 +264,13 @@ mutual
   form-back (chain fs) h =
     let r = chain-back fs (h .0) (all-back fs (h .1)) in
     record { part = bracket-part (writeParts fs) (marksOfParts fs) (chain fs) r; form = r }
-  form-back (construct fs) h = from-part (construct fs) refl (construct-part (writeForms fs) (marksOfForms fs) fs (construct-back fs (h .0) (all-back fs (h .1))))
-  form-back (constant x) h = from-part (constant x) refl (constant-part x h)
-  form-back (insert f) h = from-part (insert f) refl (insert-part (bracketed f (writeForm f)) (bracketMarks f (marksOf f)) f (form-back f h .part))
-  form-back (applyAll f) h = from-part (applyAll f) refl (applyAll-part (bracketed f (writeForm f)) (bracketMarks f (marksOf f)) f (form-back f h .part))
+  form-back (construct fs) h =
+    from-part (construct fs) refl (prefix 91 readForms construct 2 (writeForms fs) (marksOfForms fs) fs (omega arith) construct-read (construct-back fs (h .0) (all-back fs (h .1))))
+  form-back (constant x) h = from-part (constant x) refl (prefix 37 readObj constant 0 (writeObj x) (marksOfObj x) x (omega arith) constant-read (obj-back x h))
+  form-back (insert f) h =
+    from-part (insert f) refl (prefix 47 readPart insert 0 (bracketed f (writeForm f)) (bracketMarks f (marksOf f)) f (omega arith) insert-read (form-back f h .part))
+  form-back (applyAll f) h =
+    from-part (applyAll f) refl (prefix 64 readPart applyAll 0 (bracketed f (writeForm f)) (bracketMarks f (marksOf f)) f (omega arith) applyAll-read (form-back f h .part))
   form-back (bu f x) h = from-part (bu f x) refl (bu-part (bracketed f (writeForm f)) (bracketMarks f (marksOf f)) f x (form-back f (h .0) .part) (h .1))
   form-back (condition p f g) h =
     from-part (condition p f g) refl

@@ -1,23 +1,21 @@
 -- What is written of a well-formed program reads back.
-use mathlib.Core.Path.{_≡_, refl, ap, sym, _∙_}
-use mathlib.Core.Bool.{Bool, true, false, cond, and-eq-true-iff, _||_}
+use mathlib.Core.Path.{_≡_, refl, ap}
 use mathlib.Core.List.{List, [], _∷_, _++_, map}
-use Prim.Native.Nat.{ℕ, zero, suc, max, _+_, _-_, _*_, _≤_, _<_}
+use Prim.Native.Nat.{ℕ, _+_, _*_, _≤_, _<_}
 use native.Mathlib.Omega.{arith}
 use borrow.Author.Tests.{eq-eqb, ne-eqb, le-ltb}
-use lib.Dec.{ltb, eqb}
 use lib.ListN.{length, drop, length-append, length-drop}
-use Rattle.language.specs.Forms.{Form, Def, Prog, formsOf}
-use Rattle.language.specs.Tokens.{isBlank, isWordByte, span, placeFrom}
-use Rattle.language.specs.Judging.{all, isNameByte, is, judgeName}
-use Rattle.language.specs.Reading.{Got, got, andThen, asJudged, wordAt, mark, readForm, Placed, definitionAt, readDefinitions, isIn, noneTwice, withinLimits, readProgram}
+use Rattle.language.specs.Forms.{name, Def, Prog, formsOf}
+use Rattle.language.specs.Tokens.{isWordByte}
+use Rattle.language.specs.Judging.{judgeName}
+use Rattle.language.specs.Reading.{Got, got, andThen, asJudged, wordAt, mark, readForm, Placed, definitionAt, readDefinitions, noneTwice, withinLimits, readProgram}
 use Rattle.language.specs.Writing.{writeForm, writeProgram, marksOf, marksOfProgram}
 use Rattle.language.specs.Accepted.{IsName, IsForm, AreDefinitions, Different, WellFormed}
 use Rattle.theorems.specs.ReadBack.{ProgramsReadBack}
-use Rattle.theorems.proofs.Texts.{place-here, drop-past, drop-one, place-end, span-none, cons-of, all-weaken, name-word, size-word, judged-here, mark-here}
-use Rattle.theorems.proofs.ObjectsBack.{suc-of}
-use Rattle.theorems.proofs.WordsBack.{Plain, name-byte-no-blank, name-plain, name-defined}
-use Rattle.theorems.proofs.FormsBack.{Back, form-back}
+use Rattle.theorems.proofs.Texts.{place-here, drop-past, drop-one, place-end, span-none, judged-here, mark-here}
+use Rattle.theorems.proofs.Readers.{suc-of}
+use Rattle.theorems.proofs.WordsBack.{name-byte-no-blank, plain-begins, plain-size, name-plain, name-defined}
+use Rattle.theorems.proofs.FormsBack.{form-back}
 
 definition-back : (s : List ℕ) (at k : ℕ) (d : Def) (l : List ℕ) → IsName (d .called) → IsForm (d .body) → marksOf (d .body) ≤ 32 →
     drop at s ≡ d .called ++ 61 ∷ (writeForm (d .body) ++ 59 ∷ l) → 3 * length (writeForm (d .body)) + 1 < k →
@@ -27,16 +25,17 @@ definition-back s at k d l n f m h b =
     let w = d .called in
     let v = writeForm (d .body) in
     let x = name-plain w n in
-    let z = size-word s at (61 ∷ (v ++ 59 ∷ l)) (span-none isWordByte 61 (v ++ 59 ∷ l) refl) w h (all-weaken isNameByte isWordByte name-word w (x .bytes)) (x .long) in
+    let z = plain-size s at (61 ∷ (v ++ 59 ∷ l)) w (name w) (span-none isWordByte 61 (v ++ 59 ∷ l) refl) x h in
     let j = judged-here judgeName w s at w (61 ∷ (v ++ 59 ∷ l)) h z (name-defined w n) in
     let e₁ = at + length w in
     let h₁ = drop-past s at w (61 ∷ (v ++ 59 ∷ l)) h in
     let h₂ = drop-one s e₁ 61 (v ++ 59 ∷ l) h₁ in
-    let g = form-back (d .body) f .form s (e₁ + 1) 32 k 59 l h₂ (refl, refl, refl) m b in
+    let g = form-back (d .body) f .form s (e₁ + 1) 32 k (59 ∷ l) h₂ (refl, refl, refl) m b in
     let e₂ = e₁ + 1 + length v in
     let h₃ = drop-past s (e₁ + 1) v (59 ∷ l) h₂ in
     rw (j, andThen,
-        mark-here {A = Placed} 61 s e₁ (λ a. andThen (readForm k s a 32) (λ f e. mark 59 s e (λ a. got (record { place = at; def = record { called = w; body = f } }) a))) (v ++ 59 ∷ l) h₁ refl, g, andThen,
+        mark-here {A = Placed} 61 s e₁ (λ a. andThen (readForm k s a 32) (λ f e. mark 59 s e (λ a. got (record { place = at; def = record { called = w; body = f } }) a)))
+          (v ++ 59 ∷ l) h₁ refl, g, andThen,
         mark-here {A = Placed} 59 s e₂ (λ a. got (record { place = at; def = d }) a) l h₃ refl)
 
 -- behind a definition that begins at a place
@@ -65,9 +64,8 @@ definitions-back (d ∷ ds) s at k a m h n b =
     let t₃ = length-drop at s in
     let t₄ = ap length h in
     let x = name-plain w (a .0) in
-    let c = cons-of w (x .long) in
-    let y : isNameByte (c .0) ≡ true = and-eq-true-iff (isNameByte (c .0)) (all isNameByte (c .1)) .0 (rw (c .2) at (x .bytes)) .0 in
-    let p = place-here s at (c .0) (c .1 ++ 61 ∷ (v ++ 59 ∷ l)) (rw (c .2) at h) (name-byte-no-blank (c .0) y) in
+    let c = plain-begins w (name w) x in
+    let p = place-here s at (c .0) (c .1 ++ 61 ∷ (v ++ 59 ∷ l)) (rw (c .2) at h) (name-byte-no-blank (c .0) (c .3)) in
     let g = definition-back s at (i .0) d l (a .0) (a .1) (omega arith) h (omega (arith, i .1)) in
     let e₁ = at + length w in
     let e₂ = e₁ + 1 + length v in

@@ -1,17 +1,17 @@
 -- A text from a place on: the byte, the mark and the word that stand there; runs of bytes that pass a test.
 use mathlib.Core.Path.{_≡_, refl, ap, sym, _∙_}
-use mathlib.Core.Bool.{Bool, true, false, cond, _&&_, _||_, and-eq-true-iff}
+use mathlib.Core.Bool.{Bool, true, false, _||_, and-eq-true-iff}
 use mathlib.Core.List.{List, [], _∷_, _++_}
 use Prim.Native.Nat.{ℕ, zero, suc, _+_, _≤_, _<_}
 use native.Mathlib.Nat.{add-zero, zero-add, suc-add}
 use native.Mathlib.Omega.{arith}
 use borrow.Author.Tests.{eq-eqb, ne-eqb, le-leb, lt-leb, leb-true}
-use lib.Dec.{leb, eqb}
+use lib.Dec.{leb}
 use lib.ListN.{length, getD, drop, take}
 use lib.Seq.{slice, drop-drop, getD-drop, drop-append-seam, take-append-seam, take-nil, drop-length}
 use Rattle.language.specs.Tokens.{isBlank, isDigit, isLower, isUpper, isLetter, isWordByte, span, placeFrom, size, sizeAt, dashSize}
 use Rattle.language.specs.Judging.{all, isSymbolByte, isNameByte, Judged, is}
-use Rattle.language.specs.Reading.{Got, got, wordAt, asJudged, mark, opens}
+use Rattle.language.specs.Reading.{Got, got, wordAt, asJudged, mark}
 
 -- ---- places
 
@@ -69,10 +69,6 @@ all-append P (x ∷ a) b h k = let y = and-eq-true-iff (P x) (all P a) .0 h in r
 
 pub all-cons : (P : ℕ → Bool) (b : ℕ) (a : List ℕ) → P b ≡ true → all P a ≡ true → all P (b ∷ a) ≡ true
 all-cons P b a h k = rw h k
-
-pub cons-of : (x : List ℕ) → 0 < length x → (b : ℕ) × (a : List ℕ) × (x ≡ b ∷ a)
-cons-of [] h = absurd (omega arith)
-cons-of (b ∷ a) h = (b, a, refl)
 
 -- ---- letters and digits
 
@@ -160,7 +156,3 @@ judged-here judge a s p w l e n j = rw (n, slice-here s p w l e, j, asJudged, n)
 pub mark-here : {A : Type 0} (c : ℕ) (s : List ℕ) (e : ℕ) (rest : ℕ → Got A) (l : List ℕ) → drop e s ≡ c ∷ l → isBlank c ≡ false → mark c s e rest ≡ rest (e + 1)
 unfolding mark
 mark-here c s e rest l d n = rw (place-here s e c l d n, byte-here s e c l d, eq-eqb c c refl)
-
-pub opens-here : {A : Type 0} (p room : ℕ) (rest : ℕ → Got A) → 0 < room → opens p room rest ≡ rest (p + 1)
-unfolding opens
-opens-here p room rest h = rw (ne-eqb room 0 (omega arith))

@@ -1,23 +1,22 @@
 -- What is written of a selector, a primitive word or a name is judged to be it.
 use mathlib.Core.Path.{_≡_, refl, ap, sym, _∙_}
-use mathlib.Core.Bool.{Bool, true, false, cond, and-eq-true-iff, true≢false}
+use mathlib.Core.Bool.{true, false, and-eq-true-iff, true≢false}
 use mathlib.Core.List.{List, [], _∷_, _++_, append-nil}
 use mathlib.Core.Option.{Option, some, none}
-use Prim.Native.Nat.{ℕ, zero, suc, _+_, _≤_, _<_}
-use native.Mathlib.Nat.{add-zero}
+use Prim.Native.Nat.{ℕ, _≤_, _<_}
 use native.Mathlib.Omega.{arith}
 use borrow.Author.Tests.{ne-eqb, le-leb}
-use lib.Dec.{leb, eqb, lit≤}
-use lib.ListN.{length, getD, drop, take, length-append}
+use lib.Dec.{eqb, lit≤}
+use lib.ListN.{length, getD, drop, length-append}
 use lib.Seq.{take-append-seam, drop-append-seam}
-use Rattle.language.specs.Words.{Op, Entry, entry, ops, id, tl, atom, null, eq, lt, add, sub, mul, div, and, or, not, apndl, tlr, reverse, rotl, rotr, apndr, distl, distr, trans}
+use Rattle.language.specs.Words.{Op, entry, ops, id, tl, atom, null, eq, lt, add, sub, mul, div, and, or, not, apndl, tlr, reverse, rotl, rotr, apndr, distl, distr, trans}
 use Rattle.language.specs.Words as words
 use Rattle.language.specs.Forms.{Form, word, name, Word, select, selectRight, op}
 use Rattle.language.specs.Tokens.{isBlank, isDigit, isLower, isWordByte, span, sizeAt}
 use Rattle.language.specs.Judging.{all, isNameByte, is, valueOf, isSelector, findOp, judgeSelector, wordForm, judgePart, judgeName, onJudged}
 use Rattle.language.specs.Writing.{decimal, writeWord}
 use Rattle.language.specs.Accepted.{IsName, IsWord}
-use Rattle.theorems.proofs.Texts.{all-cons, all-append, all-weaken, span-all, span-none, span-nil, digit-range, lower-range, not-blank, lower-no-digit, lower-letter, lower-name, digit-word, name-word, or-right}
+use Rattle.theorems.proofs.Texts.{all-cons, all-append, all-weaken, span-all, span-none, span-nil, lower-no-digit, lower-letter, lower-name, name-word, or-right, size-word}
 use Rattle.theorems.proofs.Decimals.{decimal-digits, decimal-value, decimal-long, decimal-zero}
 use Rattle.theorems.proofs.Atoms.{word-judged}
 
@@ -122,6 +121,13 @@ name-byte-no b c h n = ne-eqb b c (λ e. true≢false (sym h ∙ ap isNameByte e
 
 pub name-byte-no-blank : (b : ℕ) → isNameByte b ≡ true → isBlank b ≡ false
 name-byte-no-blank b h = rw (name-byte-no b 32 h refl, name-byte-no b 10 h refl)
+
+pub plain-begins : (w : List ℕ) (f : Form) → Plain w f → (b : ℕ) × (a : List ℕ) × (w ≡ b ∷ a) × (isNameByte b ≡ true)
+plain-begins [] f g = absurd (omega (arith, g .long))
+plain-begins (b ∷ a) f g = (b, a, refl, and-eq-true-iff (isNameByte b) (all isNameByte a) .0 (g .bytes) .0)
+
+pub plain-size : (s : List ℕ) (p : ℕ) (l w : List ℕ) (f : Form) → span isWordByte l ≡ 0 → Plain w f → drop p s ≡ w ++ l → sizeAt s p ≡ length w
+plain-size s p l w f e g d = size-word s p l e w d (all-weaken isNameByte isWordByte name-word w (g .bytes)) (g .long)
 
 spelled-long : (w : List ℕ) (r : Option Op) → Spelled w r → 0 < length w
 spelled-long [] r h = absurd h
