@@ -16,9 +16,10 @@ use Rattle.theorems.proofs.ProgramsRead.{programs-read}
 use Rattle.theorems.proofs.EachUse.{each-use-shrinks}
 
 pub accepted-means : AcceptedMeans
-accepted-means P =
-    (λ A. let R = programs-read (A .text) P (length (A .text)) (A .reads) in (R .wellFormed, omega (arith, R .noLonger, A .short)),
-      λ W h. record { text = writeProgram P; short = h; reads = programs-read-back P W })
+accepted-means P = (
+  λ A. let R = programs-read (A .text) P (length (A .text)) (A .reads) in (R .wellFormed, omega (arith, R .noLonger, A .short)),
+  λ W h. record { text = writeProgram P; short = h; reads = programs-read-back P W },
+)
 
 pub accepted-back : AcceptedReadBack
 accepted-back P A = programs-read-back P (accepted-means P .0 A .0)

@@ -54,7 +54,7 @@ digits-zero zero n h e = omega arith
 digits-zero (suc k) n h e = let q = pow-suc 10 (suc k) in go (leb n 9) refl (digits-zero k (n / 10) (omega arith)) (digits-long k (n / 10)) e
   where
     go : (b : Bool) → leb n 9 ≡ b → (getD (digits k (n / 10)) 0 0 ≡ 48 → (n / 10 ≡ 0) × (length (digits k (n / 10)) ≡ 1)) → 0 < length (digits k (n / 10)) →
-      getD (cond b ((48 + n) ∷ []) (digits k (n / 10) ++ (48 + n % 10) ∷ [])) 0 0 ≡ 48 → (n ≡ 0) × (length (cond b ((48 + n) ∷ []) (digits k (n / 10) ++ (48 + n % 10) ∷ [])) ≡ 1)
+        getD (cond b ((48 + n) ∷ []) (digits k (n / 10) ++ (48 + n % 10) ∷ [])) 0 0 ≡ 48 → (n ≡ 0) × (length (cond b ((48 + n) ∷ []) (digits k (n / 10) ++ (48 + n % 10) ∷ [])) ≡ 1)
     go true e f l h = omega arith
     go false e f l h =
         let g = leb-false n 9 e in

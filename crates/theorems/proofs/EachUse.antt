@@ -108,21 +108,22 @@ inside-while-body p f g r ok =
 
 shrinking-passes : Passes Shrinks (PartsShrink 0) ItemsShrink
 shrinking-passes = record {
-    part = λ {f} {g} fs r. as-part f g fs r;
-    joined = λ {f} {g} fs r. joined-in f g fs r;
-    behind-part = λ f {fs} {gs} r. behind 0 f fs gs r;
-    in-chain = λ {fs} {gs} r. inside-chain fs gs r;
-    item = λ {f} {g} fs r. as-item f g fs r;
-    behind-item = λ f {fs} {gs} r. behind-item f fs gs r;
-    in-construct = λ {fs} {gs} r. inside-construct fs gs r;
-    in-insert = λ {f} {g} r. inside-insert f g r;
-    in-applyAll = λ {f} {g} r. inside-applyAll f g r;
-    in-bu = λ x {f} {g} r. inside-bu x f g r;
-    in-test = λ g h {p} {q} r. inside-test g h p q r;
-    in-then = λ p h {f} {g} r. inside-then p h f g r;
-    in-else = λ p f {g} {h} r. inside-else p f g h r;
-    in-while-test = λ f {p} {q} r. inside-while-test f p q r;
-    in-while-body = λ p {f} {g} r. inside-while-body p f g r }
+  part = λ {f} {g} fs r. as-part f g fs r;
+  joined = λ {f} {g} fs r. joined-in f g fs r;
+  behind-part = λ f {fs} {gs} r. behind 0 f fs gs r;
+  in-chain = λ {fs} {gs} r. inside-chain fs gs r;
+  item = λ {f} {g} fs r. as-item f g fs r;
+  behind-item = λ f {fs} {gs} r. behind-item f fs gs r;
+  in-construct = λ {fs} {gs} r. inside-construct fs gs r;
+  in-insert = λ {f} {g} r. inside-insert f g r;
+  in-applyAll = λ {f} {g} r. inside-applyAll f g r;
+  in-bu = λ x {f} {g} r. inside-bu x f g r;
+  in-test = λ g h {p} {q} r. inside-test g h p q r;
+  in-then = λ p h {f} {g} r. inside-then p h f g r;
+  in-else = λ p f {g} {h} r. inside-else p f g h r;
+  in-while-test = λ f {p} {q} r. inside-while-test f p q r;
+  in-while-body = λ p {f} {g} r. inside-while-body p f g r;
+}
 
 -- at every place
 pub use-shrinks : (f : Form) (l : Law) (i : ℕ) (n : New) → useAt f l i ≡ some n → Shrinks f (formOf n)
@@ -147,7 +148,8 @@ one-body (this d ds f r) ok =
       bytes = omega arith;
       number = refl;
       definitions = (ok .0, s .isForm, ok .2);
-      different = λ earlier h. h }
+      different = λ earlier h. h;
+    }
 one-body (later d {ds} {es} c) ok =
     let s = one-body c (ok .2) in
     record {
@@ -156,7 +158,8 @@ one-body (later d {ds} {es} c) ok =
       bytes = omega arith;
       number = omega arith;
       definitions = (ok .0, ok .1, s .definitions);
-      different = λ earlier h. (h .0, s .different (d .called ∷ earlier) (h .1)) }
+      different = λ earlier h. (h .0, s .different (d .called ∷ earlier) (h .1));
+    }
 
 pub each-use-shrinks : EachUse
 each-use-shrinks l i P Q wf u =
@@ -172,4 +175,6 @@ each-use-shrinks l i P Q wf u =
         different = s .different [] (wf .different);
         fewForms = omega arith;
         fewDefinitions = omega arith;
-        fewMarks = U .marks } }
+        fewMarks = U .marks;
+      };
+    }

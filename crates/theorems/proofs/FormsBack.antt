@@ -25,8 +25,16 @@ module _ (s : List ℕ) (at room k : ℕ) where
   plain-read : (b : ℕ) (l : List ℕ) → drop at s ≡ b ∷ l → isNameByte b ≡ true → readPart (suc k) s at room ≡ asJudged s at (judgePart (wordAt s at))
   unfolding readPart
   plain-read b l d h =
-      rw (place-here s at b l d (name-byte-no-blank b h), byte-here s at b l d, name-byte-no b 91 h refl, name-byte-no b 37 h refl, name-byte-no b 47 h refl,
-          name-byte-no b 64 h refl, name-byte-no b 123 h refl, name-byte-no b 40 h refl)
+      rw (
+        place-here s at b l d (name-byte-no-blank b h),
+        byte-here s at b l d,
+        name-byte-no b 91 h refl,
+        name-byte-no b 37 h refl,
+        name-byte-no b 47 h refl,
+        name-byte-no b 64 h refl,
+        name-byte-no b 123 h refl,
+        name-byte-no b 40 h refl,
+      )
 
   module _ (l : List ℕ) (opened : 0 < room) where
     construct-read : drop at s ≡ 91 ∷ l → readPart (suc k) s at room ≡ andThen (readForms k s (at + 1) (room - 1)) (λ fs e. got (construct fs) e)
@@ -46,7 +54,7 @@ module _ (s : List ℕ) (at room k : ℕ) where
     applyAll-read d = rw (place-here s at 64 l d refl, byte-here s at 64 l d, ne-eqb room 0 (omega arith))
 
     bu-read : drop at s ≡ 123 ∷ l → readPart (suc k) s at room ≡
-      andThen (readPart k s (at + 1) (room - 1)) (λ f e. mark 44 s e (λ a. andThen (readObj k s a (room - 1)) (λ x e. mark 125 s e (λ a. got (bu f x) a))))
+        andThen (readPart k s (at + 1) (room - 1)) (λ f e. mark 44 s e (λ a. andThen (readObj k s a (room - 1)) (λ x e. mark 125 s e (λ a. got (bu f x) a))))
     unfolding readPart opens
     bu-read d = rw (place-here s at 123 l d refl, byte-here s at 123 l d, ne-eqb room 0 (omega arith))
 
@@ -64,7 +72,7 @@ module _ (s : List ℕ) (p : Form) (e : ℕ) (form : ℕ → Got Form) (l : List
   loop-read d = rw (place-here s e 63 l d refl, byte-here s e 63 l d)
 
   arrow-read : drop e s ≡ 45 ∷ 62 ∷ l → afterTest s p e form ≡
-    andThen (form (e + 2)) (λ f e. mark 59 s e (λ a. andThen (form a) (λ g e. mark 41 s e (λ a. got (condition p f g) a))))
+      andThen (form (e + 2)) (λ f e. mark 59 s e (λ a. andThen (form a) (λ g e. mark 41 s e (λ a. got (condition p f g) a))))
   unfolding afterTest
   arrow-read d = rw (place-here s e 45 (62 ∷ l) d refl, byte-here s e 45 (62 ∷ l) d, byte-here s (e + 1) 62 l (drop-one s e 45 (62 ∷ l) d))
 
@@ -141,9 +149,17 @@ bu-part w m f x r h s at room k l d e n b =
     let e₂ = e₁ + 1 + length v in
     let d₄ = drop-past s (e₁ + 1) v (125 ∷ l) d₃ in
     let y : e₂ + 1 ≡ at + suc (length (w ++ 44 ∷ (v ++ 125 ∷ []))) = omega arith in
-    rw (i .1, bu-read s at room (i .0) (w ++ 44 ∷ (v ++ 125 ∷ l)) (omega arith) d₀, g, andThen,
-        mark-here 44 s e₁ (λ a. andThen (readObj (i .0) s a (room - 1)) (λ x e. mark 125 s e (λ a. got (bu f x) a))) (v ++ 125 ∷ l) d₂ refl, o, andThen,
-        mark-here 125 s e₂ (λ a. got (bu f x) a) l d₄ refl, y)
+    rw (
+      i .1,
+      bu-read s at room (i .0) (w ++ 44 ∷ (v ++ 125 ∷ l)) (omega arith) d₀,
+      g,
+      andThen,
+      mark-here 44 s e₁ (λ a. andThen (readObj (i .0) s a (room - 1)) (λ x e. mark 125 s e (λ a. got (bu f x) a))) (v ++ 125 ∷ l) d₂ refl,
+      o,
+      andThen,
+      mark-here 125 s e₂ (λ a. got (bu f x) a) l d₄ refl,
+      y,
+    )
 
 bracket-part : (w : List ℕ) (m : ℕ) (f : Form) → ReadsForm w m f → ReadsPart (40 ∷ (w ++ 41 ∷ [])) (suc m) f
 bracket-part w m f r s at room k l d e n b =
@@ -153,8 +169,14 @@ bracket-part w m f r s at room k l d e n b =
     let d₁ = drop-one s at 40 (w ++ 41 ∷ l) d₀ in
     let g = r s (at + 1) (room - 1) (i .0) (41 ∷ l) d₁ (refl, refl, refl) (omega arith) (omega (arith, i .1)) in
     let y : at + 1 + length w + 1 ≡ at + suc (length (w ++ 41 ∷ [])) = omega arith in
-    rw (i .1, round-read s at room (i .0) (w ++ 41 ∷ l) (omega arith) d₀, g, andThen,
-        close-read s f (at + 1 + length w) (λ a. readForm (i .0) s a (room - 1)) l (drop-past s (at + 1) w (41 ∷ l) d₁), y)
+    rw (
+      i .1,
+      round-read s at room (i .0) (w ++ 41 ∷ l) (omega arith) d₀,
+      g,
+      andThen,
+      close-read s f (at + 1 + length w) (λ a. readForm (i .0) s a (room - 1)) l (drop-past s (at + 1) w (41 ∷ l) d₁),
+      y,
+    )
 
 while-part : (w : List ℕ) (m : ℕ) (p : Form) (w′ : List ℕ) (m′ : ℕ) (f : Form) →
     ReadsForm w m p → ReadsForm w′ m′ f → ReadsPart (40 ∷ (w ++ 63 ∷ (w′ ++ 41 ∷ []))) (suc (max m m′)) (while p f)
@@ -172,9 +194,17 @@ while-part w m p w′ m′ f r r′ s at room k l d e n b =
     let e₂ = e₁ + 1 + length w′ in
     let d₄ = drop-past s (e₁ + 1) w′ (41 ∷ l) d₃ in
     let y : e₂ + 1 ≡ at + suc (length (w ++ 63 ∷ (w′ ++ 41 ∷ []))) = omega arith in
-    rw (i .1, round-read s at room (i .0) (w ++ 63 ∷ (w′ ++ 41 ∷ l)) (omega arith) d₀, g, andThen,
-        loop-read s p e₁ (λ a. readForm (i .0) s a (room - 1)) (w′ ++ 41 ∷ l) d₂, g′, andThen,
-        mark-here 41 s e₂ (λ a. got (while p f) a) l d₄ refl, y)
+    rw (
+      i .1,
+      round-read s at room (i .0) (w ++ 63 ∷ (w′ ++ 41 ∷ l)) (omega arith) d₀,
+      g,
+      andThen,
+      loop-read s p e₁ (λ a. readForm (i .0) s a (room - 1)) (w′ ++ 41 ∷ l) d₂,
+      g′,
+      andThen,
+      mark-here 41 s e₂ (λ a. got (while p f) a) l d₄ refl,
+      y,
+    )
 
 condition-part : (w : List ℕ) (m : ℕ) (p : Form) (w′ : List ℕ) (m′ : ℕ) (f : Form) (w″ : List ℕ) (m″ : ℕ) (g : Form) →
     ReadsForm w m p → ReadsForm w′ m′ f → ReadsForm w″ m″ g → ReadsPart (40 ∷ (w ++ 45 ∷ 62 ∷ (w′ ++ 59 ∷ (w″ ++ 41 ∷ [])))) (suc (max m (max m′ m″))) (condition p f g)
@@ -199,10 +229,20 @@ condition-part w m p w′ m′ f w″ m″ g r r′ r″ s at room k l d e n b =
     let e₃ = e₂ + 1 + length w″ in
     let d₆ = drop-past s (e₂ + 1) w″ (41 ∷ l) d₅ in
     let y : e₃ + 1 ≡ at + suc (length (w ++ 45 ∷ 62 ∷ (w′ ++ 59 ∷ (w″ ++ 41 ∷ [])))) = omega arith in
-    rw (i .1, round-read s at room (i .0) (w ++ 45 ∷ 62 ∷ l₂) (omega arith) d₀, gp, andThen,
-        arrow-read s p e₁ (λ a. readForm (i .0) s a (room - 1)) l₂ d₂, gf, andThen,
-        mark-here 59 s e₂ (λ a. andThen (readForm (i .0) s a (room - 1)) (λ g e. mark 41 s e (λ a. got (condition p f g) a))) l₃ d₄ refl, gg, andThen,
-        mark-here 41 s e₃ (λ a. got (condition p f g) a) l d₆ refl, y)
+    rw (
+      i .1,
+      round-read s at room (i .0) (w ++ 45 ∷ 62 ∷ l₂) (omega arith) d₀,
+      gp,
+      andThen,
+      arrow-read s p e₁ (λ a. readForm (i .0) s a (room - 1)) l₂ d₂,
+      gf,
+      andThen,
+      mark-here 59 s e₂ (λ a. andThen (readForm (i .0) s a (room - 1)) (λ g e. mark 41 s e (λ a. got (condition p f g) a))) l₃ d₄ refl,
+      gg,
+      andThen,
+      mark-here 41 s e₃ (λ a. got (condition p f g) a) l d₆ refl,
+      y,
+    )
 
 -- ---- forms
 
@@ -258,25 +298,26 @@ construct-back (f & fs) h b = forms-back f fs b
 
 mutual
   unfolding writeForm
+
   pub form-back : (f : Form) → IsForm f → Back f
   form-back (word w) h = from-part (word w) refl (plain-part (writeWord w) (word w) (word-plain w h))
   form-back (name w) h = from-part (name w) refl (plain-part w (name w) (name-plain w h))
   form-back (chain fs) h =
-    let r = chain-back fs (h .0) (all-back fs (h .1)) in
-    record { part = bracket-part (writeParts fs) (marksOfParts fs) (chain fs) r; form = r }
+      let r = chain-back fs (h .0) (all-back fs (h .1)) in
+      record { part = bracket-part (writeParts fs) (marksOfParts fs) (chain fs) r; form = r }
   form-back (construct fs) h =
-    from-part (construct fs) refl (prefix 91 readForms construct 2 (writeForms fs) (marksOfForms fs) fs (omega arith) construct-read (construct-back fs (h .0) (all-back fs (h .1))))
+      from-part (construct fs) refl (prefix 91 readForms construct 2 (writeForms fs) (marksOfForms fs) fs (omega arith) construct-read (construct-back fs (h .0) (all-back fs (h .1))))
   form-back (constant x) h = from-part (constant x) refl (prefix 37 readObj constant 0 (writeObj x) (marksOfObj x) x (omega arith) constant-read (obj-back x h))
   form-back (insert f) h =
-    from-part (insert f) refl (prefix 47 readPart insert 0 (bracketed f (writeForm f)) (bracketMarks f (marksOf f)) f (omega arith) insert-read (form-back f h .part))
+      from-part (insert f) refl (prefix 47 readPart insert 0 (bracketed f (writeForm f)) (bracketMarks f (marksOf f)) f (omega arith) insert-read (form-back f h .part))
   form-back (applyAll f) h =
-    from-part (applyAll f) refl (prefix 64 readPart applyAll 0 (bracketed f (writeForm f)) (bracketMarks f (marksOf f)) f (omega arith) applyAll-read (form-back f h .part))
+      from-part (applyAll f) refl (prefix 64 readPart applyAll 0 (bracketed f (writeForm f)) (bracketMarks f (marksOf f)) f (omega arith) applyAll-read (form-back f h .part))
   form-back (bu f x) h = from-part (bu f x) refl (bu-part (bracketed f (writeForm f)) (bracketMarks f (marksOf f)) f x (form-back f (h .0) .part) (h .1))
   form-back (condition p f g) h =
-    from-part (condition p f g) refl
-    (condition-part (writeForm p) (marksOf p) p (writeForm f) (marksOf f) f (writeForm g) (marksOf g) g (form-back p (h .0) .form) (form-back f (h .1) .form) (form-back g (h .2) .form))
+      from-part (condition p f g) refl
+      (condition-part (writeForm p) (marksOf p) p (writeForm f) (marksOf f) f (writeForm g) (marksOf g) g (form-back p (h .0) .form) (form-back f (h .1) .form) (form-back g (h .2) .form))
   form-back (while p f) h =
-    from-part (while p f) refl (while-part (writeForm p) (marksOf p) p (writeForm f) (marksOf f) f (form-back p (h .0) .form) (form-back f (h .1) .form))
+      from-part (while p f) refl (while-part (writeForm p) (marksOf p) p (writeForm f) (marksOf f) f (form-back p (h .0) .form) (form-back f (h .1) .form))
 
   all-back : (fs : Forms) → AreForms fs → AllBack fs
   all-back stop h = tt

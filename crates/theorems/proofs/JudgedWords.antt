@@ -80,7 +80,7 @@ judged-integer b ds =
     let v = valueOf (b ∷ ds) in
     word-cond (all isDigit (b ∷ ds))
     (λ d. word-cond (leadingZero (b ∷ ds)) (λ t. refusesWord)
-      (λ t. word-cond (leb v 2147483647) (λ u. meetsWord (record { isObj = leb-true v 2147483647 u; marks = omega arith; short = decimal-short b ds d })) (λ u. refusesWord)))
+    (λ t. word-cond (leb v 2147483647) (λ u. meetsWord (record { isObj = leb-true v 2147483647 u; marks = omega arith; short = decimal-short b ds d })) (λ u. refusesWord)))
     (λ d. refusesWord)
 
 negative-atom : (v n : ℕ) → v ≤ 2147483648 → length (decimal v) ≤ n → IsAtomIn (suc n) (int (negℤ (pos v)))
@@ -95,7 +95,7 @@ judged-negative (b ∷ ds) =
     let v = valueOf (b ∷ ds) in
     word-cond (all isDigit (b ∷ ds))
     (λ d. word-cond (eqb b 48) (λ t. refusesWord)
-      (λ t. word-cond (leb v 2147483648) (λ u. meetsWord (negative-atom v (suc (length ds)) (leb-true v 2147483648 u) (decimal-short b ds d))) (λ u. refusesWord)))
+    (λ t. word-cond (leb v 2147483648) (λ u. meetsWord (negative-atom v (suc (length ds)) (leb-true v 2147483648 u) (decimal-short b ds d))) (λ u. refusesWord)))
     (λ d. refusesWord)
 
 -- a letter that is upper case or a digit is upper case
@@ -115,7 +115,7 @@ judged-atom [] = refusesWord
 judged-atom (b ∷ w) =
     word-cond (isDigit b) (λ d. judged-integer b w)
     (λ d. word-cond (isLetter b) (λ l. word-then isSymbolByte (b ∷ w) (λ v. is (symbol v)) (λ h n. meetsWord (symbol-of b w d h n)))
-      (λ l. word-cond (eqb b 45) (λ t. judged-negative w) (λ t. refusesWord)))
+    (λ l. word-cond (eqb b 45) (λ t. judged-negative w) (λ t. refusesWord)))
 
 -- ---- where a part may stand
 
@@ -179,6 +179,7 @@ selector-of (b ∷ ds) d h = go (eqb b 48) refl h
   where
     r : (48 ≤ b) × (b ≤ 57)
     r = digit-range b (and-eq-true-iff (isDigit b) (all isDigit ds) .0 d .0)
+
     go : (t : Bool) → eqb b 48 ≡ t → cond t false (leb (valueOf (b ∷ ds)) 255) ≡ true → (1 ≤ valueOf (b ∷ ds)) × (valueOf (b ∷ ds) ≤ 255) × (length (decimal (valueOf (b ∷ ds))) ≤ suc (length ds))
     go true e g = let z : _≡_ {A = ℕ} 0 1 = cc in absurd (omega arith)
     go false e g =
@@ -196,16 +197,16 @@ judged-selector w =
     let ld = length-drop n w in
     word-cond (sameBytes (drop n w) [])
     (λ t. word-cond (isSelector (take n w))
-      (λ h. let k = selector-of (take n w) d h in meetsWord (record { isForm = (k .0, k .1); marks = omega arith; noChain = refl; short = omega arith }))
-      (λ h. refusesWord))
+    (λ h. let k = selector-of (take n w) d h in meetsWord (record { isForm = (k .0, k .1); marks = omega arith; noChain = refl; short = omega arith }))
+    (λ h. refusesWord))
     (λ t. word-cond (sameBytes (drop n w) (bytes "r"))
-      (λ u. word-cond (isSelector (take n w))
-        (λ h.
-          let k = selector-of (take n w) d h in
-          let q = ap (λ (l : List ℕ). length l) (same-bytes (drop n w) (bytes "r") u) in
-          meetsWord (record { isForm = (k .0, k .1); marks = omega arith; noChain = refl; short = rw length-append (omega arith) }))
-        (λ h. refusesWord))
-      (λ u. refusesWord))
+    (λ u. word-cond (isSelector (take n w))
+    (λ h.
+    let k = selector-of (take n w) d h in
+    let q = ap (λ (l : List ℕ). length l) (same-bytes (drop n w) (bytes "r") u) in
+    meetsWord (record { isForm = (k .0, k .1); marks = omega arith; noChain = refl; short = rw length-append (omega arith) }))
+    (λ h. refusesWord))
+    (λ u. refusesWord))
 
 pub judged-part : (w : List ℕ) → MeetsWord (IsPartIn (length w)) (judgePart w)
 unfolding judgePart

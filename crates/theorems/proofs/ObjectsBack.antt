@@ -74,11 +74,21 @@ seq-back (x :: xs) h r s at room k l d f m n =
     let e : drop (at + 1) s ≡ b .0 ∷ u = rw (b .2) at d₁ in
     let g = objs-back x xs r s (at + 1) (room - 1) (i .0) l d₁ f (omega arith) (omega (arith, i .1)) in
     let y : at + 1 + length t ≡ at + suc (length t) = omega arith in
-    rw (i .1, place-here s at 60 (t ++ l) d refl, byte-here s at 60 (t ++ l) d, ne-eqb room 0 (omega arith), place-here s (at + 1) (b .0) u e (b .3), byte-here s (at + 1) (b .0) u e,
-        ne-eqb (b .0) 62 (b .4), g, y)
+    rw (
+      i .1,
+      place-here s at 60 (t ++ l) d refl,
+      byte-here s at 60 (t ++ l) d,
+      ne-eqb room 0 (omega arith),
+      place-here s (at + 1) (b .0) u e (b .3),
+      byte-here s (at + 1) (b .0) u e,
+      ne-eqb (b .0) 62 (b .4),
+      g,
+      y,
+    )
 
 mutual
   unfolding writeObj
+
   pub obj-back : (x : Obj) → IsObj x → ReadsObj x
   obj-back (int z) h = atom-back (int z) (writeInteger z) (integer-begins z) (integer-judged z h) (λ s p l e d. integer-size s p l e z d)
   obj-back (symbol w) h = atom-back (symbol w) w (symbol-begins w h) (symbol-judged w h) (λ s p l e d. symbol-size s p l e w h d)

@@ -33,10 +33,15 @@ definition-back s at k d l n f m h b =
     let g = form-back (d .body) f .form s (e₁ + 1) 32 k (59 ∷ l) h₂ (refl, refl, refl) m b in
     let e₂ = e₁ + 1 + length v in
     let h₃ = drop-past s (e₁ + 1) v (59 ∷ l) h₂ in
-    rw (j, andThen,
-        mark-here {A = Placed} 61 s e₁ (λ a. andThen (readForm k s a 32) (λ f e. mark 59 s e (λ a. got (record { place = at; def = record { called = w; body = f } }) a)))
-          (v ++ 59 ∷ l) h₁ refl, g, andThen,
-        mark-here {A = Placed} 59 s e₂ (λ a. got (record { place = at; def = d }) a) l h₃ refl)
+    rw (
+      j,
+      andThen,
+      mark-here {A = Placed} 61 s e₁ (λ a. andThen (readForm k s a 32) (λ f e. mark 59 s e (λ a. got (record { place = at; def = record { called = w; body = f } }) a)))
+          (v ++ 59 ∷ l) h₁ refl,
+      g,
+      andThen,
+      mark-here {A = Placed} 59 s e₂ (λ a. got (record { place = at; def = d }) a) l h₃ refl,
+    )
 
 -- behind a definition that begins at a place
 behind : ℕ → Def → ℕ

@@ -53,7 +53,7 @@ pub joined : {A B C : Type 0} (c : ℕ) (first : Reader A) (rest : Reader B) (re
     (w : List ℕ) (m : ℕ) (a : A) (w′ : List ℕ) (m′ : ℕ) (b : B) →
     ((l : List ℕ) → ends (c ∷ l)) →
     ((s : List ℕ) (at room k e : ℕ) (l : List ℕ) → first k s at room ≡ got a e → drop e s ≡ c ∷ l →
-      read (suc k) s at room ≡ andThen (rest k s (e + 1) room) (λ b e. got (build a b) e)) →
+    read (suc k) s at room ≡ andThen (rest k s (e + 1) room) (λ b e. got (build a b) e)) →
     Reads first ends n w m a → Reads rest follows (suc n) w′ m′ b → Reads read follows (suc n) (w ++ c ∷ w′) (max m m′) (build a b)
 joined c first rest read build ends follows n w m a w′ m′ b z step r r′ s at room k l d f h u =
     let i = suc-of k (omega arith) in

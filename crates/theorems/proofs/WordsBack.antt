@@ -147,8 +147,11 @@ word-plain (selectRight k) h =
     let ds = decimal k in
     let a = decimal-digits k in
     let j = digit-part ds (114 ∷ []) a (decimal-long k) ∙ right-judged ds a (decimal-selects k (h .0) (h .1)) in
-    record { bytes = all-append isNameByte ds (114 ∷ []) (all-weaken isDigit isNameByte digit-name ds a) refl;
-             long = omega (arith, length-append ds (114 ∷ [])); judged = rw (decimal-value k) at j }
+    record {
+      bytes = all-append isNameByte ds (114 ∷ []) (all-weaken isDigit isNameByte digit-name ds a) refl;
+      long = omega (arith, length-append ds (114 ∷ []));
+      judged = rw (decimal-value k) at j;
+    }
 word-plain (op o) h =
     let w = entry o .spelled in
     let g = op-spelled o in

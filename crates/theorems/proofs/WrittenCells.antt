@@ -17,6 +17,7 @@ use Rattle.theorems.proofs.ProgramsRead.{bracket-bytes, programs-read}
 
 mutual
   unfolding writeObj writeInteger
+
   pub object-cells : (x : Obj) → IsObj x → 2 * cellsOf x + 1 ≤ length (writeObj x)
   object-cells (int (pos n)) h = decimal-long n
   object-cells (int (negsuc n)) h = omega arith
@@ -27,16 +28,16 @@ mutual
   objects-cells : (xs : Objs) → AreObjs xs → 2 * cellsOfAll xs ≤ length (writeObjs xs)
   objects-cells nil h = omega arith
   objects-cells (x :: xs) h =
-    let i = object-cells x (h .0) in
-    let j = more-cells xs (h .1) in
-    rw length-append (omega arith)
+      let i = object-cells x (h .0) in
+      let j = more-cells xs (h .1) in
+      rw length-append (omega arith)
 
   more-cells : (xs : Objs) → AreObjs xs → 2 * cellsOfAll xs + 1 ≤ length (writeMoreObjs xs)
   more-cells nil h = omega arith
   more-cells (x :: xs) h =
-    let i = object-cells x (h .0) in
-    let j = more-cells xs (h .1) in
-    rw length-append (omega arith)
+      let i = object-cells x (h .0) in
+      let j = more-cells xs (h .1) in
+      rw length-append (omega arith)
 
 -- ---- forms: one byte more, and another if there are cells at all
 
@@ -46,6 +47,7 @@ bytesFor c = 2 * c + min c 1
 
 mutual
   unfolding writeForm
+
   pub form-cells : (f : Form) → IsForm f → bytesFor (constantCells f) + 1 ≤ length (writeForm f)
   form-cells (word w) h = word-plain w h .long
   form-cells (name w) h = name-plain w h .long
@@ -55,46 +57,46 @@ mutual
   form-cells (insert f) h = let i = form-cells f h in omega (arith, bracket-bytes f (writeForm f) .0)
   form-cells (applyAll f) h = let i = form-cells f h in omega (arith, bracket-bytes f (writeForm f) .0)
   form-cells (bu f x) h =
-    let i = form-cells f (h .0) in
-    let j = object-cells x (h .1) in
-    simp length-append (omega (arith, bracket-bytes f (writeForm f) .0))
+      let i = form-cells f (h .0) in
+      let j = object-cells x (h .1) in
+      simp length-append (omega (arith, bracket-bytes f (writeForm f) .0))
   form-cells (condition p f g) h =
-    let i = form-cells p (h .0) in
-    let j = form-cells f (h .1) in
-    let k = form-cells g (h .2) in
-    simp length-append (omega arith)
+      let i = form-cells p (h .0) in
+      let j = form-cells f (h .1) in
+      let k = form-cells g (h .2) in
+      simp length-append (omega arith)
   form-cells (while p f) h =
-    let i = form-cells p (h .0) in
-    let j = form-cells f (h .1) in
-    simp length-append (omega arith)
+      let i = form-cells p (h .0) in
+      let j = form-cells f (h .1) in
+      simp length-append (omega arith)
 
   parts-cells : (fs : Forms) → TwoOrMore fs → AreForms fs → bytesFor (constantCellsAll fs) + 1 ≤ length (writeParts fs)
   parts-cells stop o h = absurd o
   parts-cells (f & fs) o h =
-    let i = form-cells f (h .0) in
-    let j = more-parts-cells fs (h .1) in
-    rw length-append (omega (arith, bracket-bytes f (writeForm f) .0))
+      let i = form-cells f (h .0) in
+      let j = more-parts-cells fs (h .1) in
+      rw length-append (omega (arith, bracket-bytes f (writeForm f) .0))
 
   more-parts-cells : (fs : Forms) → AreForms fs → bytesFor (constantCellsAll fs) ≤ length (writeMoreParts fs)
   more-parts-cells stop h = omega arith
   more-parts-cells (f & fs) h =
-    let i = form-cells f (h .0) in
-    let j = more-parts-cells fs (h .1) in
-    rw length-append (omega (arith, bracket-bytes f (writeForm f) .0))
+      let i = form-cells f (h .0) in
+      let j = more-parts-cells fs (h .1) in
+      rw length-append (omega (arith, bracket-bytes f (writeForm f) .0))
 
   forms-cells : (fs : Forms) → AreForms fs → bytesFor (constantCellsAll fs) ≤ length (writeForms fs)
   forms-cells stop h = omega arith
   forms-cells (f & fs) h =
-    let i = form-cells f (h .0) in
-    let j = more-forms-cells fs (h .1) in
-    rw length-append (omega arith)
+      let i = form-cells f (h .0) in
+      let j = more-forms-cells fs (h .1) in
+      rw length-append (omega arith)
 
   more-forms-cells : (fs : Forms) → AreForms fs → bytesFor (constantCellsAll fs) ≤ length (writeMoreForms fs)
   more-forms-cells stop h = omega arith
   more-forms-cells (f & fs) h =
-    let i = form-cells f (h .0) in
-    let j = more-forms-cells fs (h .1) in
-    rw length-append (omega arith)
+      let i = form-cells f (h .0) in
+      let j = more-forms-cells fs (h .1) in
+      rw length-append (omega arith)
 
 -- ---- programs: five bytes more if there are cells at all
 

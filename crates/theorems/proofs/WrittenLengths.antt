@@ -73,6 +73,7 @@ part-length f e = go (isChain f)
 
 mutual
   unfolding writeForm
+
   pub form-length : (f : Form) → length (writeForm f) ≡ formBytes f
   form-length (word w) = refl
   form-length (name w) = refl
@@ -84,9 +85,15 @@ mutual
   form-length (bu f x) =
       omega (arith, part-length f (form-length f), length-append (bracketed f (writeForm f)) (code "," ∷ (writeObj x ++ bytes "}")), length-append (writeObj x) (bytes "}"))
   form-length (condition p f g) =
-      omega (arith, form-length p, form-length f, form-length g,
+      omega (
+        arith,
+        form-length p,
+        form-length f,
+        form-length g,
         length-append (writeForm p) (code "-" ∷ code ">" ∷ (writeForm f ++ code ";" ∷ (writeForm g ++ bytes ")"))),
-        length-append (writeForm f) (code ";" ∷ (writeForm g ++ bytes ")")), length-append (writeForm g) (bytes ")"))
+        length-append (writeForm f) (code ";" ∷ (writeForm g ++ bytes ")")),
+        length-append (writeForm g) (bytes ")"),
+      )
   form-length (while p f) =
       omega (arith, form-length p, form-length f, length-append (writeForm p) (code "?" ∷ (writeForm f ++ bytes ")")), length-append (writeForm f) (bytes ")"))
 
@@ -110,8 +117,13 @@ pub program-length : (P : Prog) → length (writeProgram P) ≡ programBytes P
 unfolding writeProgram
 program-length [] = refl
 program-length (d ∷ ds) =
-    omega (arith, form-length (d .body), program-length ds, length-append (d .called) (code "=" ∷ (writeForm (d .body) ++ code ";" ∷ writeProgram ds)),
-      length-append (writeForm (d .body)) (code ";" ∷ writeProgram ds))
+    omega (
+      arith,
+      form-length (d .body),
+      program-length ds,
+      length-append (d .called) (code "=" ∷ (writeForm (d .body) ++ code ";" ∷ writeProgram ds)),
+      length-append (writeForm (d .body)) (code ";" ∷ writeProgram ds),
+    )
 
 -- ---- at least one byte
 
