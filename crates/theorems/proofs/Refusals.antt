@@ -11,7 +11,7 @@ use lib.ListN.{length, drop, length-drop}
 use Rattle.language.specs.Objects.{Obj, Objs}
 use Rattle.language.specs.Forms.{Form, construct, constant, insert, applyAll, bu, condition, while, Forms, Prog, formsOf}
 use Rattle.language.specs.Tokens.{isBlank, isDigit, isLetter, isWordByte, byteAt, span, placeFrom, dashSize, size, sizeAt}
-use Rattle.language.specs.Judging.{Judged, is, isNot, judgeAtom, judgePart, judgeName, refusalOf}
+use Rattle.language.specs.Judging.{Judged, isNot, judgeAtom, judgePart, judgeName, refusalOf}
 use Rattle.language.specs.Reading.{Got, got, no, andThen, wordAt, asJudged, refused, mark, opens, insideSequence, afterObject, readObj, readObjs, atEnd, markLimit, calls, readObject}
 use Rattle.language.specs.Reading.{afterTest, afterPart, afterParts, afterForm, readForm, readParts, readForms, readPart, Placed, definitionAt, readDefinitions, isIn, noneTwice, withinLimits, readProgram}
 use Rattle.theorems.specs.ReadBack.{Refusal, ObjectsRefused, ProgramsRefused}
