@@ -20,7 +20,7 @@ use Rattle.language.specs.Judging.{judgeInteger, judgeNegative, judgeAtom, find
 use Rattle.language.specs.Writing.{digits, decimal, writeInteger, writeObj, writeWord, writeForm, isChain, marksOfObj, marksOf}
 use Rattle.language.specs.Accepted.{IsObj, IsName, IsForm}
 use Rattle.theorems.proofs.Texts.{digit-range, lower-no-digit, upper-no-digit}
-use Rattle.theorems.proofs.Outcomes.{MeetsWord, meetsWord, refusesWord, word-cond}
+use Rattle.theorems.proofs.Outcomes.{MeetsWord, meetsWord, misspelled, outOfRange, tooLong, word-cond}
 
 -- ---- numbers
 
@@ -71,17 +71,23 @@ word-then {A} {R} test w k f = go (leb (length w) 12) refl (all test w) refl
   where
     go : (t : Bool) → leb (length w) 12 ≡ t → (u : Bool) → all test w ≡ u → MeetsWord R (onJudged (cond t (cond u (is w) (isNot 6)) (isNot 9)) k)
     go true e true h = f h (leb-true (length w) 12 e)
-    go true e false h = refusesWord
-    go false e u h = refusesWord
+    go true e false h = misspelled
+    go false e u h = tooLong
 
 judged-integer : (b : ℕ) (ds : List ℕ) → MeetsWord (IsAtomIn (suc (length ds))) (judgeInteger (b ∷ ds))
 unfolding judgeInteger writeInteger writeObj
 judged-integer b ds =
     let v = valueOf (b ∷ ds) in
     word-cond (all isDigit (b ∷ ds))
+<<<<<<< HEAD
     (λ d. word-cond (leadingZero (b ∷ ds)) (λ t. refusesWord)
     (λ t. word-cond (leb v 2147483647) (λ u. meetsWord (record { isObj = leb-true v 2147483647 u; marks = omega arith; short = decimal-short b ds d })) (λ u. refusesWord)))
     (λ d. refusesWord)
+=======
+    (λ d. word-cond (leadingZero (b ∷ ds)) (λ t. outOfRange)
+      (λ t. word-cond (leb v 2147483647) (λ u. meetsWord (record { isObj = leb-true v 2147483647 u; marks = omega arith; short = decimal-short b ds d })) (λ u. outOfRange)))
+    (λ d. misspelled)
+>>>>>>> c
 
 negative-atom : (v n : ℕ) → v ≤ 2147483648 → length (decimal v) ≤ n → IsAtomIn (suc n) (int (negℤ (pos v)))
 unfolding writeInteger writeObj
@@ -90,13 +96,19 @@ negative-atom (suc v) n h l = record { isObj = omega arith; marks = omega arith;
 
 judged-negative : (ds : List ℕ) → MeetsWord (IsAtomIn (suc (length ds))) (judgeNegative ds)
 unfolding judgeNegative
-judged-negative [] = refusesWord
+judged-negative [] = misspelled
 judged-negative (b ∷ ds) =
     let v = valueOf (b ∷ ds) in
     word-cond (all isDigit (b ∷ ds))
+<<<<<<< HEAD
     (λ d. word-cond (eqb b 48) (λ t. refusesWord)
     (λ t. word-cond (leb v 2147483648) (λ u. meetsWord (negative-atom v (suc (length ds)) (leb-true v 2147483648 u) (decimal-short b ds d))) (λ u. refusesWord)))
     (λ d. refusesWord)
+=======
+    (λ d. word-cond (eqb b 48) (λ t. outOfRange)
+      (λ t. word-cond (leb v 2147483648) (λ u. meetsWord (negative-atom v (suc (length ds)) (leb-true v 2147483648 u) (decimal-short b ds d))) (λ u. outOfRange)))
+    (λ d. misspelled)
+>>>>>>> c
 
 -- a letter that is upper case or a digit is upper case
 first-of : (u d : Bool) → d ≡ false → (u || d) ≡ true → u ≡ true
@@ -111,11 +123,15 @@ symbol-of b w d h l =
 
 pub judged-atom : (w : List ℕ) → MeetsWord (IsAtomIn (length w)) (judgeAtom w)
 unfolding judgeAtom
-judged-atom [] = refusesWord
+judged-atom [] = misspelled
 judged-atom (b ∷ w) =
     word-cond (isDigit b) (λ d. judged-integer b w)
     (λ d. word-cond (isLetter b) (λ l. word-then isSymbolByte (b ∷ w) (λ v. is (symbol v)) (λ h n. meetsWord (symbol-of b w d h n)))
+<<<<<<< HEAD
     (λ l. word-cond (eqb b 45) (λ t. judged-negative w) (λ t. refusesWord)))
+=======
+      (λ l. word-cond (eqb b 45) (λ t. judged-negative w) (λ t. misspelled)))
+>>>>>>> c
 
 -- ---- where a part may stand
 
@@ -197,6 +213,7 @@ judged-selector w =
     let ld = length-drop n w in
     word-cond (sameBytes (drop n w) [])
     (λ t. word-cond (isSelector (take n w))
+<<<<<<< HEAD
     (λ h. let k = selector-of (take n w) d h in meetsWord (record { isForm = (k .0, k .1); marks = omega arith; noChain = refl; short = omega arith }))
     (λ h. refusesWord))
     (λ t. word-cond (sameBytes (drop n w) (bytes "r"))
@@ -207,13 +224,25 @@ judged-selector w =
     meetsWord (record { isForm = (k .0, k .1); marks = omega arith; noChain = refl; short = rw length-append (omega arith) }))
     (λ h. refusesWord))
     (λ u. refusesWord))
+=======
+      (λ h. let k = selector-of (take n w) d h in meetsWord (record { isForm = (k .0, k .1); marks = omega arith; noChain = refl; short = omega arith }))
+      (λ h. outOfRange))
+    (λ t. word-cond (sameBytes (drop n w) (bytes "r"))
+      (λ u. word-cond (isSelector (take n w))
+        (λ h.
+          let k = selector-of (take n w) d h in
+          let q = ap (λ (l : List ℕ). length l) (same-bytes (drop n w) (bytes "r") u) in
+          meetsWord (record { isForm = (k .0, k .1); marks = omega arith; noChain = refl; short = rw length-append (omega arith) }))
+        (λ h. outOfRange))
+      (λ u. misspelled))
+>>>>>>> c
 
 pub judged-part : (w : List ℕ) → MeetsWord (IsPartIn (length w)) (judgePart w)
 unfolding judgePart
-judged-part [] = refusesWord
+judged-part [] = misspelled
 judged-part (b ∷ w) =
     word-cond (isDigit b) (λ d. judged-selector (b ∷ w))
-    (λ d. word-cond (isLetter b) (λ l. word-then isNameByte (b ∷ w) (λ v. is (wordForm v)) (λ h n. meetsWord (word-form b w d h n))) (λ l. refusesWord))
+    (λ d. word-cond (isLetter b) (λ l. word-then isNameByte (b ∷ w) (λ v. is (wordForm v)) (λ h n. meetsWord (word-form b w d h n))) (λ l. misspelled))
 
 -- ---- where a defined name may stand
 
@@ -236,11 +265,11 @@ name-of : (b : ℕ) (w : List ℕ) → isDigit b ≡ false → all isNameByte (b
 name-of b w d h l = go (findOp ops (b ∷ w)) refl
   where
     go : (r : Option Op) → findOp ops (b ∷ w) ≡ r → MeetsWord (IsNameIn (suc (length w))) (elim r [ some o ↦ isNot 6 | none ↦ is (b ∷ w) ])
-    go (some o) e = refusesWord
+    go (some o) e = misspelled
     go none e = meetsWord {a = b ∷ w} (record { isName = is-name b w d h l e; short = omega arith })
 
 pub judged-name : (w : List ℕ) → MeetsWord (IsNameIn (length w)) (judgeName w)
 unfolding judgeName
-judged-name [] = refusesWord
+judged-name [] = misspelled
 judged-name (b ∷ w) =
-    word-cond (isLetter b) (λ l. word-then isNameByte (b ∷ w) newName (λ h n. name-of b w (letter-no-digit b l) h n)) (λ l. refusesWord)
+    word-cond (isLetter b) (λ l. word-then isNameByte (b ∷ w) newName (λ h n. name-of b w (letter-no-digit b l) h n)) (λ l. misspelled)

@@ -1,4 +1,4 @@
--- A reader's outcome meets a demand if whatever it got does; a rule for each step of a reader.
+-- A reader's outcome meets a demand if whatever it got does, and one on refusals if a refusal does; a rule for each step of a reader.
 use Prim.Native.Nat.{ℕ, _+_, _≤_}
 use mathlib.Core.Path.{_≡_, refl, subst}
 use mathlib.Core.Bool.{Bool, true, false, cond}
@@ -11,29 +11,48 @@ use Rattle.language.specs.Tokens.{byteAt, placeFrom, sizeAt}
 use Rattle.language.specs.Judging.{Judged, is, isNot}
 use Rattle.language.specs.Reading.{Got, got, no, andThen, wordAt, asJudged, refused, mark, opens}
 
-pub data Meets {A : Type 0} (Q : A → ℕ → Type 0) : Got A → Type 0 where
-  meets : {a : A} {e : ℕ} → Q a e → Meets Q (got a e)
-  refuses : {n p : ℕ} → Meets Q (no n p)
+-- Q is demanded of what is got, N of a refusal's number and place.
+pub data Outcome {A : Type 0} (N : ℕ → ℕ → Type 0) (Q : A → ℕ → Type 0) : Got A → Type 0 where
+  meets : {a : A} {e : ℕ} → Q a e → Outcome N Q (got a e)
+  refusesBy : {n p : ℕ} → N n p → Outcome N Q (no n p)
 
+-- nothing is demanded of a refusal
+abbrev pub Meets : {A : Type 0} → (A → ℕ → Type 0) → Got A → Type 0
+Meets Q r = Outcome (λ n p. Unit {0}) Q r
+
+-- A word is refused with one of three numbers.
 pub data MeetsWord {A : Type 0} (Q : A → Type 0) : Judged A → Type 0 where
   meetsWord : {a : A} → Q a → MeetsWord Q (is a)
-  refusesWord : {n : ℕ} → MeetsWord Q (isNot n)
+  misspelled : MeetsWord Q (isNot 6)
+  outOfRange : MeetsWord Q (isNot 8)
+  tooLong : MeetsWord Q (isNot 9)
 
-module _ {A : Type 0} {Q : A → ℕ → Type 0} where
-  pub met : {a : A} {e : ℕ} → Meets Q (got a e) → Q a e
+module _ {A : Type 0} {N : ℕ → ℕ → Type 0} {Q : A → ℕ → Type 0} where
+  pub met : {a : A} {e : ℕ} → Outcome N Q (got a e) → Q a e
   met (meets q) = q
 
+  pub refusedBy : {n p : ℕ} → Outcome N Q (no n p) → N n p
+  refusedBy (refusesBy h) = h
+
   -- what is got meets the demand
-  pub got-meets : {r : Got A} {a : A} {e : ℕ} → Meets Q r → r ≡ got a e → Q a e
-  got-meets h q = met (subst (λ (u : Got A). Meets Q u) q h)
+  pub got-meets : {r : Got A} {a : A} {e : ℕ} → Outcome N Q r → r ≡ got a e → Q a e
+  got-meets h q = met (subst (λ (u : Got A). Outcome N Q u) q h)
 
-  pub meets-then : {B : Type 0} {R : B → ℕ → Type 0} {r : Got A} {k : A → ℕ → Got B} → Meets Q r → ((a : A) (e : ℕ) → Q a e → Meets R (k a e)) → Meets R (andThen r k)
+  -- and so does a refusal
+  pub no-meets : {r : Got A} {n p : ℕ} → Outcome N Q r → r ≡ no n p → N n p
+  no-meets h q = refusedBy (subst (λ (u : Got A). Outcome N Q u) q h)
+
+  pub meets-then : {B : Type 0} {R : B → ℕ → Type 0} {r : Got A} {k : A → ℕ → Got B} → Outcome N Q r → ((a : A) (e : ℕ) → Q a e → Outcome N R (k a e)) → Outcome N R (andThen r k)
   meets-then (meets q) f = f _ _ q
-  meets-then refuses f = refuses
+  meets-then (refusesBy h) f = refusesBy h
 
-  pub meets-cond : (t : Bool) {x y : Got A} → (t ≡ true → Meets Q x) → (t ≡ false → Meets Q y) → Meets Q (cond t x y)
+  pub meets-cond : (t : Bool) {x y : Got A} → (t ≡ true → Outcome N Q x) → (t ≡ false → Outcome N Q y) → Outcome N Q (cond t x y)
   meets-cond true f g = f refl
   meets-cond false f g = g refl
+
+module _ {A : Type 0} {Q : A → ℕ → Type 0} where
+  pub refuses : {n p : ℕ} → Meets Q (no n p)
+  refuses = refusesBy tt
 
   pub meets-refused : (s : List ℕ) (p : ℕ) → Meets Q (refused s p)
   unfolding refused
@@ -49,7 +68,9 @@ module _ {A : Type 0} {Q : A → ℕ → Type 0} where
 
   pub meets-judged : {P : A → Type 0} (s : List ℕ) (p : ℕ) {j : Judged A} → MeetsWord P j → ((a : A) → P a → Q a (p + sizeAt s p)) → Meets Q (asJudged s p j)
   meets-judged s p (meetsWord q) f = meets (f _ q)
-  meets-judged s p refusesWord f = refuses
+  meets-judged s p misspelled f = refuses
+  meets-judged s p outOfRange f = refuses
+  meets-judged s p tooLong f = refuses
 
 module _ {A : Type 0} {Q : A → Type 0} where
   pub word-cond : (t : Bool) {x y : Judged A} → (t ≡ true → MeetsWord Q x) → (t ≡ false → MeetsWord Q y) → MeetsWord Q (cond t x y)
