@@ -104,8 +104,8 @@ module _ {A : Type 0} {Q : A → ℕ → Type 0} (s : List ℕ) where
   pub mark-reads : (b at : ℕ) (rest : ℕ → Got A) → 1 ≤ b → at ≤ length s → (placeFrom s at + 1 ≤ length s → Reads s Q (rest (placeFrom s at + 1))) → Reads s Q (mark b s at rest)
   unfolding mark
   mark-reads b at rest n l h =
-    let p = placeFrom s at in
-    meets-cond (eqb (byteAt s p) b) (λ t. h (mark-within s p b n t)) (λ t. refused-within p (place-within s at l))
+      let p = placeFrom s at in
+      meets-cond (eqb (byteAt s p) b) (λ t. h (mark-within s p b n t)) (λ t. refused-within p (place-within s at l))
 
   pub opens-reads : (p room : ℕ) (rest : ℕ → Got A) → p ≤ length s → Reads s Q (rest (p + 1)) → Reads s Q (opens p room rest)
   unfolding opens
@@ -142,48 +142,49 @@ module _ (s : List ℕ) (at : ℕ) where
   sequence-within : (a : ℕ) (r : ℕ → Got Objs) → at ≤ a → a ≤ length s → Within s a (r a) → Within s at (insideSequence s a r)
   unfolding insideSequence
   sequence-within a r l i h =
-    let p = placeFrom s a in
-    let o = place-on s a in
-    meets-cond (eqb (byteAt s p) (code ">"))
-    (λ t. meets (record { behind = omega arith; inside = mark-within s p (code ">") (omega arith) t }))
-    (λ t. meets-then h (λ xs e q. meets (later a e l q)))
+      let p = placeFrom s a in
+      let o = place-on s a in
+      meets-cond (eqb (byteAt s p) (code ">"))
+      (λ t. meets (record { behind = omega arith; inside = mark-within s p (code ">") (omega arith) t }))
+      (λ t. meets-then h (λ xs e q. meets (later a e l q)))
 
   after-object-within : (x : Obj) (e : ℕ) (r : ℕ → Got Objs) → Ends s at e → (placeFrom s e + 1 ≤ length s → Within s (placeFrom s e + 1) (r (placeFrom s e + 1))) → Within s at (afterObject s x e r)
   unfolding afterObject
   after-object-within x e r q h =
-    let p = placeFrom s e in
-    let o = place-on s e in
-    let b = q .behind in
-    meets-cond (eqb (byteAt s p) (code ","))
-    (λ t. meets-then (h (mark-within s p (code ",") (omega arith) t)) (λ xs e₁ q₁. meets (later (p + 1) e₁ (omega arith) q₁)))
-    (λ t. meets-cond (eqb (byteAt s p) (code ">"))
+      let p = placeFrom s e in
+      let o = place-on s e in
+      let b = q .behind in
+      meets-cond (eqb (byteAt s p) (code ","))
+      (λ t. meets-then (h (mark-within s p (code ",") (omega arith) t)) (λ xs e₁ q₁. meets (later (p + 1) e₁ (omega arith) q₁)))
+      (λ t. meets-cond (eqb (byteAt s p) (code ">"))
       (λ u. meets (record { behind = omega arith; inside = mark-within s p (code ">") (omega arith) u }))
       (λ u. refused-within s p (place-within s e (q .inside))))
 
 mutual
   unfolding readObj judgeAtom
+
   pub object-within : (k : ℕ) (s : List ℕ) (at room : ℕ) → at ≤ length s → Within s at (readObj k s at room)
   object-within zero s at room l = spent s
   object-within (suc k) s at room l =
-    let p = placeFrom s at in
-    let o = place-on s at in
-    meets-cond (eqb (byteAt s p) (code "<"))
-    (λ t.
+      let p = placeFrom s at in
+      let o = place-on s at in
+      meets-cond (eqb (byteAt s p) (code "<"))
+      (λ t.
       let i = mark-within s p (code "<") (omega arith) t in
       opens-reads s p room (λ a. insideSequence s a (λ b. readObjs k s b (room - 1))) (omega arith)
       (sequence-within s at (p + 1) (λ b. readObjs k s b (room - 1)) (omega arith) i (objects-within k s (p + 1) (room - 1) i)))
-    (λ t. word-within s at judgeAtom l refl judged-atom)
+      (λ t. word-within s at judgeAtom l refl judged-atom)
 
   pub objects-within : (k : ℕ) (s : List ℕ) (at room : ℕ) → at ≤ length s → Within s at (readObjs k s at room)
   objects-within zero s at room l = spent s
   objects-within (suc k) s at room l =
-    meets-then (object-within k s at room l) (λ x e q. after-object-within s at x e (λ a. readObjs k s a room) q (λ i. objects-within k s (placeFrom s e + 1) room i))
+      meets-then (object-within k s at room l) (λ x e q. after-object-within s at x e (λ a. readObjs k s a room) q (λ i. objects-within k s (placeFrom s e + 1) room i))
 
 pub objects-refused : ObjectsRefused
 unfolding readObject atEnd
 objects-refused s n p h =
     no-meets {Q = λ x e. Unit {0}} (meets-then (object-within (calls s) s 0 markLimit (omega arith)) (λ x e q.
-      meets-cond (eqb (placeFrom s e) (length s)) (λ t. meets tt) (λ t. refused-within s (placeFrom s e) (place-within s e (q .inside))))) h
+    meets-cond (eqb (placeFrom s e) (length s)) (λ t. meets tt) (λ t. refused-within s (placeFrom s e) (place-within s e (q .inside))))) h
 
 -- ---- forms
 
@@ -191,111 +192,112 @@ module _ (s : List ℕ) (at : ℕ) where
   -- the mark b behind what ends at e, and nothing more
   closed : {A : Type 0} (b : ℕ) (x : A) (e : ℕ) → 1 ≤ b → Ends s at e → Within s at (mark b s e (λ a. got x a))
   closed b x e n q =
-    let o = place-on s e in
-    let l = q .behind in
-    mark-reads s b e (λ a. got x a) n (q .inside) (λ i. meets (record { behind = omega arith; inside = i }))
+      let o = place-on s e in
+      let l = q .behind in
+      mark-reads s b e (λ a. got x a) n (q .inside) (λ i. meets (record { behind = omega arith; inside = i }))
 
   after-part-within : (f : Form) (e : ℕ) (r : ℕ → Got Forms) → Ends s at e → (placeFrom s e + 1 ≤ length s → Within s (placeFrom s e + 1) (r (placeFrom s e + 1))) → Within s at (afterPart s f e r)
   unfolding afterPart
   after-part-within f e r q h =
-    let p = placeFrom s e in
-    let o = place-on s e in
-    let b = q .behind in
-    meets-cond (eqb (byteAt s p) (code "."))
-    (λ t. meets-then (h (mark-within s p (code ".") (omega arith) t)) (λ fs e₁ q₁. meets (later s at (p + 1) e₁ (omega arith) q₁)))
-    (λ t. meets q)
+      let p = placeFrom s e in
+      let o = place-on s e in
+      let b = q .behind in
+      meets-cond (eqb (byteAt s p) (code "."))
+      (λ t. meets-then (h (mark-within s p (code ".") (omega arith) t)) (λ fs e₁ q₁. meets (later s at (p + 1) e₁ (omega arith) q₁)))
+      (λ t. meets q)
 
   after-parts-within : (f : Form) (e : ℕ) (r : ℕ → Got Forms) → Ends s at e → (placeFrom s e + 1 ≤ length s → Within s (placeFrom s e + 1) (r (placeFrom s e + 1))) → Within s at (afterParts s f e r)
   unfolding afterParts
   after-parts-within f e r q h =
-    let p = placeFrom s e in
-    let o = place-on s e in
-    let b = q .behind in
-    meets-cond (eqb (byteAt s p) (code "."))
-    (λ t. meets-then (h (mark-within s p (code ".") (omega arith) t)) (λ fs e₁ q₁. meets (later s at (p + 1) e₁ (omega arith) q₁)))
-    (λ t. meets q)
+      let p = placeFrom s e in
+      let o = place-on s e in
+      let b = q .behind in
+      meets-cond (eqb (byteAt s p) (code "."))
+      (λ t. meets-then (h (mark-within s p (code ".") (omega arith) t)) (λ fs e₁ q₁. meets (later s at (p + 1) e₁ (omega arith) q₁)))
+      (λ t. meets q)
 
   after-form-within : (f : Form) (e : ℕ) (r : ℕ → Got Forms) → Ends s at e → (placeFrom s e + 1 ≤ length s → Within s (placeFrom s e + 1) (r (placeFrom s e + 1))) → Within s at (afterForm s f e r)
   unfolding afterForm
   after-form-within f e r q h =
-    let p = placeFrom s e in
-    let o = place-on s e in
-    let b = q .behind in
-    meets-cond (eqb (byteAt s p) (code ","))
-    (λ t. meets-then (h (mark-within s p (code ",") (omega arith) t)) (λ fs e₁ q₁. meets (later s at (p + 1) e₁ (omega arith) q₁)))
-    (λ t. meets-cond (eqb (byteAt s p) (code "]"))
+      let p = placeFrom s e in
+      let o = place-on s e in
+      let b = q .behind in
+      meets-cond (eqb (byteAt s p) (code ","))
+      (λ t. meets-then (h (mark-within s p (code ",") (omega arith) t)) (λ fs e₁ q₁. meets (later s at (p + 1) e₁ (omega arith) q₁)))
+      (λ t. meets-cond (eqb (byteAt s p) (code "]"))
       (λ u. meets (record { behind = omega arith; inside = mark-within s p (code "]") (omega arith) u }))
       (λ u. refused-within s p (place-within s e (q .inside))))
 
   after-test-within : (f : Form) (e : ℕ) (r : ℕ → Got Form) → Ends s at e → ((a : ℕ) → a ≤ length s → Within s a (r a)) → Within s at (afterTest s f e r)
   unfolding afterTest
   after-test-within f e r q h =
-    let p = placeFrom s e in
-    let o = place-on s e in
-    let b = q .behind in
-    meets-cond (eqb (byteAt s p) (code "-") && eqb (byteAt s (p + 1)) (code ">"))
-    (λ t.
+      let p = placeFrom s e in
+      let o = place-on s e in
+      let b = q .behind in
+      meets-cond (eqb (byteAt s p) (code "-") && eqb (byteAt s (p + 1)) (code ">"))
+      (λ t.
       let i = mark-within s (p + 1) (code ">") (omega arith) (and-eq-true-iff (eqb (byteAt s p) (code "-")) (eqb (byteAt s (p + 1)) (code ">")) .0 t .1) in
       meets-then (h (p + 2) (omega arith)) (λ g e₁ q₁.
-        let o₁ = place-on s e₁ in
-        let b₁ = q₁ .behind in
-        mark-reads s (code ";") e₁ (λ a. andThen (r a) (λ g₁ e. mark (code ")") s e (λ a. got (condition f g g₁) a))) (omega arith) (q₁ .inside)
-        (λ j. meets-then (h (placeFrom s e₁ + 1) j) (λ g₁ e₂ q₂. closed (code ")") (condition f g g₁) e₂ (omega arith) (later s at (placeFrom s e₁ + 1) e₂ (omega arith) q₂)))))
-    (λ t. meets-cond (eqb (byteAt s p) (code "?"))
+      let o₁ = place-on s e₁ in
+      let b₁ = q₁ .behind in
+      mark-reads s (code ";") e₁ (λ a. andThen (r a) (λ g₁ e. mark (code ")") s e (λ a. got (condition f g g₁) a))) (omega arith) (q₁ .inside)
+      (λ j. meets-then (h (placeFrom s e₁ + 1) j) (λ g₁ e₂ q₂. closed (code ")") (condition f g g₁) e₂ (omega arith) (later s at (placeFrom s e₁ + 1) e₂ (omega arith) q₂)))))
+      (λ t. meets-cond (eqb (byteAt s p) (code "?"))
       (λ u. meets-then (h (p + 1) (mark-within s p (code "?") (omega arith) u)) (λ g e₁ q₁. closed (code ")") (while f g) e₁ (omega arith) (later s at (p + 1) e₁ (omega arith) q₁)))
       (λ u. meets-cond (eqb (byteAt s p) (code ")"))
-        (λ v. meets (record { behind = omega arith; inside = mark-within s p (code ")") (omega arith) v }))
-        (λ v. refused-within s p (place-within s e (q .inside)))))
+      (λ v. meets (record { behind = omega arith; inside = mark-within s p (code ")") (omega arith) v }))
+      (λ v. refused-within s p (place-within s e (q .inside)))))
 
 mutual
   unfolding readPart judgePart
+
   pub form-within : (k : ℕ) (s : List ℕ) (at room : ℕ) → at ≤ length s → Within s at (readForm k s at room)
   form-within zero s at room l = spent s
   form-within (suc k) s at room l =
-    meets-then (part-within k s at room l) (λ f e q. after-part-within s at f e (λ a. readParts k s a room) q (λ i. parts-within k s (placeFrom s e + 1) room i))
+      meets-then (part-within k s at room l) (λ f e q. after-part-within s at f e (λ a. readParts k s a room) q (λ i. parts-within k s (placeFrom s e + 1) room i))
 
   pub parts-within : (k : ℕ) (s : List ℕ) (at room : ℕ) → at ≤ length s → Within s at (readParts k s at room)
   parts-within zero s at room l = spent s
   parts-within (suc k) s at room l =
-    meets-then (part-within k s at room l) (λ f e q. after-parts-within s at f e (λ a. readParts k s a room) q (λ i. parts-within k s (placeFrom s e + 1) room i))
+      meets-then (part-within k s at room l) (λ f e q. after-parts-within s at f e (λ a. readParts k s a room) q (λ i. parts-within k s (placeFrom s e + 1) room i))
 
   pub forms-within : (k : ℕ) (s : List ℕ) (at room : ℕ) → at ≤ length s → Within s at (readForms k s at room)
   forms-within zero s at room l = spent s
   forms-within (suc k) s at room l =
-    meets-then (form-within k s at room l) (λ f e q. after-form-within s at f e (λ a. readForms k s a room) q (λ i. forms-within k s (placeFrom s e + 1) room i))
+      meets-then (form-within k s at room l) (λ f e q. after-form-within s at f e (λ a. readForms k s a room) q (λ i. forms-within k s (placeFrom s e + 1) room i))
 
   pub part-within : (k : ℕ) (s : List ℕ) (at room : ℕ) → at ≤ length s → Within s at (readPart k s at room)
   part-within zero s at room l = spent s
   part-within (suc k) s at room l =
-    let p = placeFrom s at in
-    let b = byteAt s p in
-    let a = p + 1 in
-    let o = place-on s at in
-    let i = place-within s at l in
-    let la : at ≤ a = omega arith in
-    meets-cond (eqb b (code "["))
-    (λ t. opens-reads s p room (λ a. andThen (readForms k s a (room - 1)) (λ fs e. got (construct fs) e)) i
+      let p = placeFrom s at in
+      let b = byteAt s p in
+      let a = p + 1 in
+      let o = place-on s at in
+      let i = place-within s at l in
+      let la : at ≤ a = omega arith in
+      meets-cond (eqb b (code "["))
+      (λ t. opens-reads s p room (λ a. andThen (readForms k s a (room - 1)) (λ fs e. got (construct fs) e)) i
       (meets-then (forms-within k s a (room - 1) (mark-within s p (code "[") (omega arith) t)) (λ fs e q. meets (later s at a e la q))))
-    (λ t. meets-cond (eqb b (code "%"))
-    (λ t. opens-reads s p room (λ a. andThen (readObj k s a (room - 1)) (λ x e. got (constant x) e)) i
+      (λ t. meets-cond (eqb b (code "%"))
+      (λ t. opens-reads s p room (λ a. andThen (readObj k s a (room - 1)) (λ x e. got (constant x) e)) i
       (meets-then (object-within k s a (room - 1) (mark-within s p (code "%") (omega arith) t)) (λ x e q. meets (later s at a e la q))))
-    (λ t. meets-cond (eqb b (code "/"))
-    (λ t. opens-reads s p room (λ a. andThen (readPart k s a (room - 1)) (λ f e. got (insert f) e)) i
+      (λ t. meets-cond (eqb b (code "/"))
+      (λ t. opens-reads s p room (λ a. andThen (readPart k s a (room - 1)) (λ f e. got (insert f) e)) i
       (meets-then (part-within k s a (room - 1) (mark-within s p (code "/") (omega arith) t)) (λ f e q. meets (later s at a e la q))))
-    (λ t. meets-cond (eqb b (code "@"))
-    (λ t. opens-reads s p room (λ a. andThen (readPart k s a (room - 1)) (λ f e. got (applyAll f) e)) i
+      (λ t. meets-cond (eqb b (code "@"))
+      (λ t. opens-reads s p room (λ a. andThen (readPart k s a (room - 1)) (λ f e. got (applyAll f) e)) i
       (meets-then (part-within k s a (room - 1) (mark-within s p (code "@") (omega arith) t)) (λ f e q. meets (later s at a e la q))))
-    (λ t. meets-cond (eqb b (code "{"))
-    (λ t. opens-reads s p room (λ a. andThen (readPart k s a (room - 1)) (λ f e. mark (code ",") s e (λ a. andThen (readObj k s a (room - 1)) (λ x e. mark (code "}") s e (λ a. got (bu f x) a))))) i
+      (λ t. meets-cond (eqb b (code "{"))
+      (λ t. opens-reads s p room (λ a. andThen (readPart k s a (room - 1)) (λ f e. mark (code ",") s e (λ a. andThen (readObj k s a (room - 1)) (λ x e. mark (code "}") s e (λ a. got (bu f x) a))))) i
       (meets-then (part-within k s a (room - 1) (mark-within s p (code "{") (omega arith) t)) (λ f e q.
-        let o₁ = place-on s e in
-        let b₁ = q .behind in
-        mark-reads s (code ",") e (λ a. andThen (readObj k s a (room - 1)) (λ x e. mark (code "}") s e (λ a. got (bu f x) a))) (omega arith) (q .inside)
-        (λ j. meets-then (object-within k s (placeFrom s e + 1) (room - 1) j) (λ x e₁ q₁. closed s at (code "}") (bu f x) e₁ (omega arith) (later s at (placeFrom s e + 1) e₁ (omega arith) q₁))))))
-    (λ t. meets-cond (eqb b (code "("))
-    (λ t. opens-reads s p room (λ a. andThen (readForm k s a (room - 1)) (λ f e. afterTest s f e (λ a. readForm k s a (room - 1)))) i
+      let o₁ = place-on s e in
+      let b₁ = q .behind in
+      mark-reads s (code ",") e (λ a. andThen (readObj k s a (room - 1)) (λ x e. mark (code "}") s e (λ a. got (bu f x) a))) (omega arith) (q .inside)
+      (λ j. meets-then (object-within k s (placeFrom s e + 1) (room - 1) j) (λ x e₁ q₁. closed s at (code "}") (bu f x) e₁ (omega arith) (later s at (placeFrom s e + 1) e₁ (omega arith) q₁))))))
+      (λ t. meets-cond (eqb b (code "("))
+      (λ t. opens-reads s p room (λ a. andThen (readForm k s a (room - 1)) (λ f e. afterTest s f e (λ a. readForm k s a (room - 1)))) i
       (meets-then (form-within k s a (room - 1) (mark-within s p (code "(") (omega arith) t)) (λ f e q. after-test-within s at f e (λ a. readForm k s a (room - 1)) (later s at a e la q) (λ c j. form-within k s c (room - 1) j))))
-    (λ t. word-within s at judgePart l refl judged-part))))))
+      (λ t. word-within s at judgePart l refl judged-part))))))
 
 -- ---- programs
 
@@ -315,10 +317,10 @@ definition-within k s at p w e l q =
     let b = q .behind in
     mark-reads s (code "=") e (λ a. andThen (readForm k s a markLimit) (λ f e. mark (code ";") s e (λ a. got (record { place = p; def = record { called = w; body = f } }) a))) (omega arith) (q .inside)
     (λ i. meets-then (form-within k s (placeFrom s e + 1) markLimit i) (λ f e₁ q₁.
-      let o₁ = place-on s e₁ in
-      let b₁ = q₁ .behind in
-      mark-reads s (code ";") e₁ (λ a. got (record { place = p; def = record { called = w; body = f } }) a) (omega arith) (q₁ .inside)
-      (λ j. meets (record { ends = record { behind = omega arith; inside = j }; placed = l }))))
+    let o₁ = place-on s e₁ in
+    let b₁ = q₁ .behind in
+    mark-reads s (code ";") e₁ (λ a. got (record { place = p; def = record { called = w; body = f } }) a) (omega arith) (q₁ .inside)
+    (λ j. meets (record { ends = record { behind = omega arith; inside = j }; placed = l }))))
 
 -- a definition from its name on
 pub first-within : (k : ℕ) (s : List ℕ) (at : ℕ) → at ≤ length s
@@ -355,6 +357,6 @@ pub programs-refused : ProgramsRefused
 unfolding readProgram withinLimits
 programs-refused s n p h =
     no-meets (meets-then (higher s (definitions-within (calls s) s 0 (omega arith))) (λ ds e q.
-      let P = map (λ (d : Placed). d .def) ds in
-      meets-cond (ltb 2048 (formsOf P) || ltb 128 (length P)) (λ t. refusesBy {n = 10} {p = 0} (record { low = omega arith; high = omega arith; within = omega arith }))
-      (λ t. none-twice-within s [] ds (got P e) q (meets tt)))) h
+    let P = map (λ (d : Placed). d .def) ds in
+    meets-cond (ltb 2048 (formsOf P) || ltb 128 (length P)) (λ t. refusesBy {n = 10} {p = 0} (record { low = omega arith; high = omega arith; within = omega arith }))
+    (λ t. none-twice-within s [] ds (got P e) q (meets tt)))) h
