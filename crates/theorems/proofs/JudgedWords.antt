@@ -79,15 +79,9 @@ unfolding judgeInteger writeInteger writeObj
 judged-integer b ds =
     let v = valueOf (b ∷ ds) in
     word-cond (all isDigit (b ∷ ds))
-<<<<<<< HEAD
-    (λ d. word-cond (leadingZero (b ∷ ds)) (λ t. refusesWord)
-    (λ t. word-cond (leb v 2147483647) (λ u. meetsWord (record { isObj = leb-true v 2147483647 u; marks = omega arith; short = decimal-short b ds d })) (λ u. refusesWord)))
-    (λ d. refusesWord)
-=======
     (λ d. word-cond (leadingZero (b ∷ ds)) (λ t. outOfRange)
-      (λ t. word-cond (leb v 2147483647) (λ u. meetsWord (record { isObj = leb-true v 2147483647 u; marks = omega arith; short = decimal-short b ds d })) (λ u. outOfRange)))
+    (λ t. word-cond (leb v 2147483647) (λ u. meetsWord (record { isObj = leb-true v 2147483647 u; marks = omega arith; short = decimal-short b ds d })) (λ u. outOfRange)))
     (λ d. misspelled)
->>>>>>> c
 
 negative-atom : (v n : ℕ) → v ≤ 2147483648 → length (decimal v) ≤ n → IsAtomIn (suc n) (int (negℤ (pos v)))
 unfolding writeInteger writeObj
@@ -100,15 +94,9 @@ judged-negative [] = misspelled
 judged-negative (b ∷ ds) =
     let v = valueOf (b ∷ ds) in
     word-cond (all isDigit (b ∷ ds))
-<<<<<<< HEAD
-    (λ d. word-cond (eqb b 48) (λ t. refusesWord)
-    (λ t. word-cond (leb v 2147483648) (λ u. meetsWord (negative-atom v (suc (length ds)) (leb-true v 2147483648 u) (decimal-short b ds d))) (λ u. refusesWord)))
-    (λ d. refusesWord)
-=======
     (λ d. word-cond (eqb b 48) (λ t. outOfRange)
-      (λ t. word-cond (leb v 2147483648) (λ u. meetsWord (negative-atom v (suc (length ds)) (leb-true v 2147483648 u) (decimal-short b ds d))) (λ u. outOfRange)))
+    (λ t. word-cond (leb v 2147483648) (λ u. meetsWord (negative-atom v (suc (length ds)) (leb-true v 2147483648 u) (decimal-short b ds d))) (λ u. outOfRange)))
     (λ d. misspelled)
->>>>>>> c
 
 -- a letter that is upper case or a digit is upper case
 first-of : (u d : Bool) → d ≡ false → (u || d) ≡ true → u ≡ true
@@ -127,11 +115,7 @@ judged-atom [] = misspelled
 judged-atom (b ∷ w) =
     word-cond (isDigit b) (λ d. judged-integer b w)
     (λ d. word-cond (isLetter b) (λ l. word-then isSymbolByte (b ∷ w) (λ v. is (symbol v)) (λ h n. meetsWord (symbol-of b w d h n)))
-<<<<<<< HEAD
-    (λ l. word-cond (eqb b 45) (λ t. judged-negative w) (λ t. refusesWord)))
-=======
-      (λ l. word-cond (eqb b 45) (λ t. judged-negative w) (λ t. misspelled)))
->>>>>>> c
+    (λ l. word-cond (eqb b 45) (λ t. judged-negative w) (λ t. misspelled)))
 
 -- ---- where a part may stand
 
@@ -213,29 +197,16 @@ judged-selector w =
     let ld = length-drop n w in
     word-cond (sameBytes (drop n w) [])
     (λ t. word-cond (isSelector (take n w))
-<<<<<<< HEAD
     (λ h. let k = selector-of (take n w) d h in meetsWord (record { isForm = (k .0, k .1); marks = omega arith; noChain = refl; short = omega arith }))
-    (λ h. refusesWord))
+    (λ h. outOfRange))
     (λ t. word-cond (sameBytes (drop n w) (bytes "r"))
     (λ u. word-cond (isSelector (take n w))
     (λ h.
     let k = selector-of (take n w) d h in
     let q = ap (λ (l : List ℕ). length l) (same-bytes (drop n w) (bytes "r") u) in
     meetsWord (record { isForm = (k .0, k .1); marks = omega arith; noChain = refl; short = rw length-append (omega arith) }))
-    (λ h. refusesWord))
-    (λ u. refusesWord))
-=======
-      (λ h. let k = selector-of (take n w) d h in meetsWord (record { isForm = (k .0, k .1); marks = omega arith; noChain = refl; short = omega arith }))
-      (λ h. outOfRange))
-    (λ t. word-cond (sameBytes (drop n w) (bytes "r"))
-      (λ u. word-cond (isSelector (take n w))
-        (λ h.
-          let k = selector-of (take n w) d h in
-          let q = ap (λ (l : List ℕ). length l) (same-bytes (drop n w) (bytes "r") u) in
-          meetsWord (record { isForm = (k .0, k .1); marks = omega arith; noChain = refl; short = rw length-append (omega arith) }))
-        (λ h. outOfRange))
-      (λ u. misspelled))
->>>>>>> c
+    (λ h. outOfRange))
+    (λ u. misspelled))
 
 pub judged-part : (w : List ℕ) → MeetsWord (IsPartIn (length w)) (judgePart w)
 unfolding judgePart
