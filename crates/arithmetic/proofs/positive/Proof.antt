@@ -1,0 +1,14 @@
+use borrow.Author.Needs.{needs}
+use native.Mathlib.Omega.{arith}
+use Rattle.arithmetic.proofs.Signs.{pos-is}
+use Rattle.arithmetic.proofs.positive.Statement.{statement}
+use Rattle.arithmetic.proofs.positive.Tie as tie
+use Rattle.arithmetic.proofs.positive.Reads as reads
+use Rattle.arithmetic.proofs.positive.Lts as lts
+
+-- pub fn positive(n: u64) -> Val
+returns : tie.Need-returns
+returns c = search pos-is
+
+pub positive-spec : {M : Type 1} → statement M
+positive-spec = tie.close (tie.spec returns)
