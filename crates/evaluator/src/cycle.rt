@@ -118,8 +118,8 @@ pub fn fold(f: &[u32], c: &mut [u32], w: &mut [u32], top: u32, g: u32, s: Val, q
     match m.charge_cells(2) {
         Charge::Spent(k) => Ended::Stop(24, k),
         Charge::Granted(k) => {
-            let a = cells::nth(c, s, q);
-            let y = cells::pair(c, p, a, v);
+            let x = cells::nth(c, s, q);
+            let y = cells::pair(c, p, x, v);
             apply(f, c, w, top, g, y, k)
         }
     }
