@@ -1,2 +1,4 @@
 pub mod Codes
 pub mod Linked
+pub mod Raw
+pub mod Linking
