@@ -1,0 +1,58 @@
+use native.Mathlib.Omega.{arith}
+use borrow.Author.Needs.{needs}
+use Rattle.lexer.proofs.judging.judge_negative.Statement.{statement}
+use Rattle.lexer.proofs.judging.judge_negative.Tie as tie
+use Rattle.lexer.proofs.judging.judge_negative.Reads as reads
+use Rattle.lexer.proofs.judging.judge_negative.Lts as lts
+use Rattle.lexer.proofs.numbers.value.Reads as value-reads
+use Rattle.lexer.proofs.reader.span_end.Reads as span-end-reads
+
+-- return AtomJudged::Not(6);
+returns : tie.Need-returns
+returns c = ?
+
+-- if reader::span_end(s, from, to, Class::Digit) < to {
+span-end-requires : tie.Need-span-end-requires
+span-end-requires c κs = search needs
+
+-- return AtomJudged::Not(6);
+returns-2 : tie.Need-returns-2
+returns-2 c = ?
+
+-- if s[from] == b'0' {
+shared-slice-read-if3 : tie.Need-shared-slice-read-if3
+shared-slice-read-if3 c = search needs
+
+-- return AtomJudged::Not(8);
+returns-3 : tie.Need-returns-3
+returns-3 c = ?
+
+-- let v = numbers::value(s, from, to);
+value-requires : tie.Need-value-requires
+value-requires c κs = search needs
+
+-- return AtomJudged::Not(8);
+returns-4 : tie.Need-returns-4
+returns-4 c = ?
+
+-- AtomJudged::Is(Val { tag: 1, word: v - 1 })
+sub-t10 : tie.Need-sub-t10
+sub-t10 c = ?
+
+-- fn judge_negative(s: &[u8], from: usize, to: usize) -> AtomJudged
+returns-5 : tie.Need-returns-5
+returns-5 c = ?
+
+pub judge-negative-spec : {M : Type 1} → statement M
+judge-negative-spec =
+    tie.close
+    (tie.spec
+    returns
+    span-end-requires
+    returns-2
+    shared-slice-read-if3
+    returns-3
+    value-requires
+    returns-4
+    sub-t10
+    returns-5)
