@@ -111,7 +111,7 @@ module _ (case : Case) where
 
 -- the loop of `unpack`
 module _ (case : Case) (v : ℕ) (old new : List ℕ) (left i : ℕ) where
-  pub unpack-on : {b : ℕ} → length new ≡ 12 → i < 12 → (left ≡ 0 → ⊥) → b ≡ byteOf case (left % 37) → unpacked case v ≡ take i new ++ unpackedFrom case (12 - i) left → unpacked case v ≡ take (i + 1) (set new i b) ++ unpackedFrom case (12 - (i + 1)) (left / 37)
+  pub unpack-on : {b : ℕ} → 12 ≤ length new → i < 12 → (left ≡ 0 → ⊥) → b ≡ byteOf case (left % 37) → unpacked case v ≡ take i new ++ unpackedFrom case (12 - i) left → unpacked case v ≡ take (i + 1) (set new i b) ++ unpackedFrom case (12 - (i + 1)) (left / 37)
   unpack-on {b} n h z e inv =
       let k : 12 - i ≡ suc (12 - (i + 1)) = omega arith in
       inv ∙ rw (k, unpacked-suc case (12 - (i + 1)) left z, ← e, add-one i, take-suc-set new i b (omega arith)) (sym (append-assoc (take i new) (b ∷ []) (unpackedFrom case (12 - suc i) (left / 37))))
@@ -119,13 +119,13 @@ module _ (case : Case) (v : ℕ) (old new : List ℕ) (left i : ℕ) where
   pub unpack-rest : (b : ℕ) → drop i new ≡ drop i old → drop (i + 1) (set new i b) ≡ drop (i + 1) old
   unpack-rest b e = drop-set-lt (i + 1) new i b (omega arith) ∙ sym (drop-drop 1 i new) ∙ ap (drop 1) e ∙ drop-drop 1 i old
 
-  whole : length new ≡ 12 → i ≤ 12 → unpacked case v ≡ take i new → drop i new ≡ drop i old → Unpacked case v i old new
+  whole : 12 ≤ length new → i ≤ 12 → unpacked case v ≡ take i new → drop i new ≡ drop i old → Unpacked case v i old new
   whole n h e d = record { size = rw e (sym (length-take-le i new (omega arith))); bytes = rw (e, ← d) (sym (take-append-drop i new)); high = h }
 
-  pub unpack-out : length new ≡ 12 → i < 12 → left ≡ 0 → unpacked case v ≡ take i new ++ unpackedFrom case (12 - i) left → drop i new ≡ drop i old → Unpacked case v i old new
+  pub unpack-out : 12 ≤ length new → i < 12 → left ≡ 0 → unpacked case v ≡ take i new ++ unpackedFrom case (12 - i) left → drop i new ≡ drop i old → Unpacked case v i old new
   unpack-out n h z inv d = whole n (omega arith) (inv ∙ rw (z, unpacked-zero case (12 - i)) (append-nil (take i new))) d
 
-  pub unpack-full : length new ≡ 12 → 12 ≤ i → i ≤ 12 → unpacked case v ≡ take i new ++ unpackedFrom case (12 - i) left → drop i new ≡ drop i old → Unpacked case v i old new
+  pub unpack-full : 12 ≤ length new → 12 ≤ i → i ≤ 12 → unpacked case v ≡ take i new ++ unpackedFrom case (12 - i) left → drop i new ≡ drop i old → Unpacked case v i old new
   unfolding unpackedFrom
   unpack-full n g h inv d =
       let k : 12 - i ≡ 0 = omega arith in

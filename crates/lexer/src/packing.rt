@@ -50,7 +50,8 @@ fn byte(case: Case, d: u8) -> u8
 }
 
 // Writes a packed word's bytes to the front of `out` and gives their number.
-pub fn unpack(v: u64, case: Case, out: &mut [u8; 12]) -> usize
+pub fn unpack(v: u64, case: Case, out: &mut [u8]) -> usize
+    requires { ⌜ 12 ≤ length (now out) ⌝ }
     ensures { λ r. ⌜ Unpacked case v r (now (out .entry)) (now (out .exit)) ⌝ }
 {
     let mut left = v;

@@ -12,13 +12,16 @@ use Rattle.lexer.proofs.packing.unpack.Statement.{statement}
 use Rattle.lexer.proofs.packing.unpack.Tie as tie
 
 abbrev Inv-loop : tie.InvT-loop
-Inv-loop v case out₀ left₀ i₀ out left i = (unpacked case v ≡ take i out ++ unpackedFrom case (12 - i) left) × (drop i out ≡ drop i out₀) × (length out ≡ 12) × (i ≤ 12)
+Inv-loop v case out₀ left₀ i₀ out left i = (unpacked case v ≡ take i out ++ unpackedFrom case (12 - i) left) × (drop i out ≡ drop i out₀) × (12 ≤ length out) × (length out ≡ length out₀) × (i ≤ 12)
 
 abbrev μ-loop : tie.MeasureT-loop
 μ-loop v case out₀ left₀ i₀ out left i = 12 - i
 
 loop-holds : tie.Need-loop-holds Inv-loop μ-loop
 loop-holds c = search needs
+
+same-length : tie.Need-same-length Inv-loop μ-loop
+same-length c = search needs
 
 returns : tie.Need-returns Inv-loop μ-loop
 returns c = search unpack-out
@@ -29,8 +32,8 @@ cast-byte c = search needs
 byte-requires : tie.Need-byte-requires Inv-loop μ-loop
 byte-requires c κs = search needs
 
-element-write-out : tie.Need-element-write-out Inv-loop μ-loop
-element-write-out c = search needs
+slice-write-out : tie.Need-slice-write-out Inv-loop μ-loop
+slice-write-out c = search needs
 
 add-i : tie.Need-add-i Inv-loop μ-loop
 add-i c = search needs
@@ -39,7 +42,10 @@ loop-less : tie.Need-loop-less Inv-loop μ-loop
 loop-less c = search needs
 
 loop-again : tie.Need-loop-again Inv-loop μ-loop
-loop-again c = (search unpack-on, search unpack-rest, search needs, omega arith)
+loop-again c = (search unpack-on, search unpack-rest, simp length-set (omega arith), simp length-set (omega arith), omega arith)
+
+same-length-2 : tie.Need-same-length-2 Inv-loop μ-loop
+same-length-2 c = search needs
 
 returns-2 : tie.Need-returns-2 Inv-loop μ-loop
 returns-2 c = search unpack-full
@@ -47,4 +53,4 @@ returns-2 c = search unpack-full
 pub unpack-spec : {M : Type 1} → statement M
 unpack-spec =
     tie.close
-    (tie.spec Inv-loop μ-loop loop-holds returns cast-byte byte-requires element-write-out add-i loop-less loop-again returns-2)
+    (tie.spec Inv-loop μ-loop loop-holds same-length returns cast-byte byte-requires slice-write-out add-i loop-less loop-again same-length-2 returns-2)

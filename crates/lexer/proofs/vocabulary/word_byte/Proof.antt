@@ -1,14 +1,12 @@
-use native.Mathlib.Omega.{arith}
+-- `word_byte` gives a byte of the word, from the table. Assumes nothing.
 use borrow.Author.Needs.{needs}
+use Rattle.lexer.proofs.Words.{byte-past, byte-over, letter-byte}
 use Rattle.lexer.proofs.vocabulary.word_byte.Statement.{statement}
 use Rattle.lexer.proofs.vocabulary.word_byte.Tie as tie
-use Rattle.lexer.proofs.vocabulary.word_byte.Reads as reads
-use Rattle.lexer.proofs.vocabulary.word_byte.Lts as lts
-use Rattle.lexer.proofs.vocabulary.word_length.Reads as word-length-reads
 
 -- return 0;
 returns : tie.Need-returns
-returns c = ?
+returns c = search byte-past
 
 -- if word_length(code) <= i {
 word-length-requires : tie.Need-word-length-requires
@@ -16,7 +14,7 @@ word-length-requires c κs = search needs
 
 -- return 0;
 returns-2 : tie.Need-returns-2
-returns-2 c = ?
+returns-2 c = search byte-over
 
 -- let row = (code as usize) * 9;
 mul-row : tie.Need-mul-row
@@ -36,7 +34,7 @@ array-read-result c = search needs
 
 -- pub fn word_byte(code: u32, i: usize) -> u8
 returns-3 : tie.Need-returns-3
-returns-3 c = ?
+returns-3 c = search letter-byte
 
 pub word-byte-spec : {M : Type 1} → statement M
 word-byte-spec =

@@ -1,13 +1,12 @@
-use native.Mathlib.Omega.{arith}
+-- `word_length` gives the word's length, from the table. Assumes nothing.
 use borrow.Author.Needs.{needs}
+use Rattle.lexer.proofs.Words.{length-past, length-low, length-fits, length-is, length-few}
 use Rattle.lexer.proofs.vocabulary.word_length.Statement.{statement}
 use Rattle.lexer.proofs.vocabulary.word_length.Tie as tie
-use Rattle.lexer.proofs.vocabulary.word_length.Reads as reads
-use Rattle.lexer.proofs.vocabulary.word_length.Lts as lts
 
 -- return 0;
 returns : tie.Need-returns
-returns c = ?
+returns c = (search length-past, search needs)
 
 -- let row = (code as usize) * 9;
 mul-row : tie.Need-mul-row
@@ -23,15 +22,15 @@ array-read-result c = search needs
 
 -- (TABLE[row + 1] - b'0') as usize
 sub-result : tie.Need-sub-result
-sub-result c = ?
+sub-result c = search length-low
 
 -- (TABLE[row + 1] - b'0') as usize
 cast-result : tie.Need-cast-result
-cast-result c = ?
+cast-result c = search length-fits
 
 -- pub fn word_length(code: u32) -> usize
 returns-2 : tie.Need-returns-2
-returns-2 c = ?
+returns-2 c = (search length-is, search length-few)
 
 pub word-length-spec : {M : Type 1} → statement M
 word-length-spec =
