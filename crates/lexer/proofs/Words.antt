@@ -182,7 +182,7 @@ letter-byte k i h e l =
     (rw z at (byte-at k (suc (suc i)) (omega arith) (omega arith))) ∙ List·getD-append (entry (getD ops k W.id) .spelled) (replicate 7 32) 0 i m ∙ ap (λ (w : List ℕ). getD w i 0) (sym (spelled-at k (omega arith)))
 
 -- comparing a word, byte by byte
-same-not : (v w : List ℕ) → (length v ≡ length w → ⊥) → sameBytes v w ≡ false
+pub same-not : (v w : List ℕ) → (length v ≡ length w → ⊥) → sameBytes v w ≡ false
 same-not [] [] h = absurd (h refl)
 same-not [] (y ∷ w) h = refl
 same-not (x ∷ v) [] h = refl

@@ -1,18 +1,12 @@
-use native.Mathlib.Omega.{arith}
+-- `judge_atom` judges what stands where an object may stand, by its first byte. Assumes nothing.
 use borrow.Author.Needs.{needs}
+use Rattle.lexer.proofs.Judged.{atom-none, atom-integer, atom-symbol, atom-other, atom-negative}
 use Rattle.lexer.proofs.judging.judge_atom.Statement.{statement}
 use Rattle.lexer.proofs.judging.judge_atom.Tie as tie
-use Rattle.lexer.proofs.judging.judge_atom.Reads as reads
-use Rattle.lexer.proofs.judging.judge_atom.Lts as lts
-use Rattle.lexer.proofs.classes.is_digit.Reads as is-digit-reads
-use Rattle.lexer.proofs.classes.is_letter.Reads as is-letter-reads
-use Rattle.lexer.proofs.judging.judge_integer.Reads as judge-integer-reads
-use Rattle.lexer.proofs.judging.judge_negative.Reads as judge-negative-reads
-use Rattle.lexer.proofs.judging.judge_symbol.Reads as judge-symbol-reads
 
 -- return AtomJudged::Not(6);
 returns : tie.Need-returns
-returns c = ?
+returns c = search atom-none
 
 -- let b = s[p];
 shared-slice-read-b : tie.Need-shared-slice-read-b
@@ -32,7 +26,7 @@ judge-integer-requires c κs = search needs
 
 -- return judge_integer(s, p, p + n);
 returns-2 : tie.Need-returns-2
-returns-2 c = ?
+returns-2 c = search atom-integer
 
 -- if classes::is_letter(b) {
 is-letter-requires : tie.Need-is-letter-requires
@@ -48,11 +42,11 @@ judge-symbol-requires c κs = search needs
 
 -- return judge_symbol(s, p, p + n);
 returns-3 : tie.Need-returns-3
-returns-3 c = ?
+returns-3 c = search atom-symbol
 
 -- return AtomJudged::Not(6);
 returns-4 : tie.Need-returns-4
-returns-4 c = ?
+returns-4 c = search atom-other
 
 -- judge_negative(s, p + 1, p + n)
 add-judge-negative : tie.Need-add-judge-negative
@@ -68,7 +62,7 @@ judge-negative-requires c κs = search needs
 
 -- pub fn judge_atom(s: &[u8], p: usize, n: usize) -> AtomJudged
 returns-5 : tie.Need-returns-5
-returns-5 c = ?
+returns-5 c = search atom-negative
 
 pub judge-atom-spec : {M : Type 1} → statement M
 judge-atom-spec =

@@ -1,12 +1,8 @@
-use native.Mathlib.Omega.{arith}
+-- `judge_integer` judges a number without a sign, a law for each way out. Assumes nothing.
 use borrow.Author.Needs.{needs}
+use Rattle.lexer.proofs.Judged.{integer-mixed, integer-zero, integer-large, integer-good}
 use Rattle.lexer.proofs.judging.judge_integer.Statement.{statement}
 use Rattle.lexer.proofs.judging.judge_integer.Tie as tie
-use Rattle.lexer.proofs.judging.judge_integer.Reads as reads
-use Rattle.lexer.proofs.judging.judge_integer.Lts as lts
-use Rattle.lexer.proofs.judging.has_leading_zero.Reads as has-leading-zero-reads
-use Rattle.lexer.proofs.numbers.value.Reads as value-reads
-use Rattle.lexer.proofs.reader.span_end.Reads as span-end-reads
 
 -- if reader::span_end(s, from, to, Class::Digit) < to {
 span-end-requires : tie.Need-span-end-requires
@@ -14,7 +10,7 @@ span-end-requires c κs = search needs
 
 -- return AtomJudged::Not(6);
 returns : tie.Need-returns
-returns c = ?
+returns c = search integer-mixed
 
 -- if has_leading_zero(s, from, to) {
 has-leading-zero-requires : tie.Need-has-leading-zero-requires
@@ -22,7 +18,7 @@ has-leading-zero-requires c κs = search needs
 
 -- return AtomJudged::Not(8);
 returns-2 : tie.Need-returns-2
-returns-2 c = ?
+returns-2 c = search integer-zero
 
 -- let v = numbers::value(s, from, to);
 value-requires : tie.Need-value-requires
@@ -30,11 +26,11 @@ value-requires c κs = search needs
 
 -- return AtomJudged::Not(8);
 returns-3 : tie.Need-returns-3
-returns-3 c = ?
+returns-3 c = search integer-large
 
 -- fn judge_integer(s: &[u8], from: usize, to: usize) -> AtomJudged
 returns-4 : tie.Need-returns-4
-returns-4 c = ?
+returns-4 c = search integer-good
 
 pub judge-integer-spec : {M : Type 1} → statement M
 judge-integer-spec =

@@ -1,17 +1,12 @@
-use native.Mathlib.Omega.{arith}
+-- `judge_name` judges what stands where a defined name may stand, a law for each way out. Assumes nothing.
 use borrow.Author.Needs.{needs}
+use Rattle.lexer.proofs.Judged.{name-none, name-other, name-refused, name-primitive, name-good}
 use Rattle.lexer.proofs.judging.judge_name.Statement.{statement}
 use Rattle.lexer.proofs.judging.judge_name.Tie as tie
-use Rattle.lexer.proofs.judging.judge_name.Reads as reads
-use Rattle.lexer.proofs.judging.judge_name.Lts as lts
-use Rattle.lexer.proofs.classes.is_letter.Reads as is-letter-reads
-use Rattle.lexer.proofs.judging.judge_word.Reads as judge-word-reads
-use Rattle.lexer.proofs.packing.pack.Reads as pack-reads
-use Rattle.lexer.proofs.vocabulary.find_word.Reads as find-word-reads
 
 -- return NameJudged::Not(6);
 returns : tie.Need-returns
-returns c = ?
+returns c = search name-none
 
 -- if !classes::is_letter(s[p]) {
 shared-slice-read-is-letter : tie.Need-shared-slice-read-is-letter
@@ -23,7 +18,7 @@ is-letter-requires c κs = search needs
 
 -- return NameJudged::Not(6);
 returns-2 : tie.Need-returns-2
-returns-2 c = ?
+returns-2 c = search name-other
 
 -- let refused = judge_word(s, p, p + n, Class::Name);
 add-judge-word : tie.Need-add-judge-word
@@ -35,7 +30,7 @@ judge-word-requires c κs = search needs
 
 -- return NameJudged::Not(refused);
 returns-3 : tie.Need-returns-3
-returns-3 c = ?
+returns-3 c = search name-refused
 
 -- if vocabulary::find_word(s, p, p + n) < 23 {
 add-find-word : tie.Need-add-find-word
@@ -47,7 +42,7 @@ find-word-requires c κs = search needs
 
 -- return NameJudged::Not(6);
 returns-4 : tie.Need-returns-4
-returns-4 c = ?
+returns-4 c = search name-primitive
 
 -- NameJudged::Is(packing::pack(s, p, p + n))
 add-pack : tie.Need-add-pack
@@ -59,7 +54,7 @@ pack-requires c κs = ?
 
 -- pub fn judge_name(s: &[u8], p: usize, n: usize) -> NameJudged
 returns-5 : tie.Need-returns-5
-returns-5 c = ?
+returns-5 c = search name-good
 
 pub judge-name-spec : {M : Type 1} → statement M
 judge-name-spec =

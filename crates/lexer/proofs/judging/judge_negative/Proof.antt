@@ -1,15 +1,12 @@
-use native.Mathlib.Omega.{arith}
+-- `judge_negative` judges digits behind a minus, a law for each way out. Assumes nothing.
 use borrow.Author.Needs.{needs}
+use Rattle.lexer.proofs.Judged.{negative-none, negative-mixed, negative-zero, negative-large, negative-good, negative-some}
 use Rattle.lexer.proofs.judging.judge_negative.Statement.{statement}
 use Rattle.lexer.proofs.judging.judge_negative.Tie as tie
-use Rattle.lexer.proofs.judging.judge_negative.Reads as reads
-use Rattle.lexer.proofs.judging.judge_negative.Lts as lts
-use Rattle.lexer.proofs.numbers.value.Reads as value-reads
-use Rattle.lexer.proofs.reader.span_end.Reads as span-end-reads
 
 -- return AtomJudged::Not(6);
 returns : tie.Need-returns
-returns c = ?
+returns c = search negative-none
 
 -- if reader::span_end(s, from, to, Class::Digit) < to {
 span-end-requires : tie.Need-span-end-requires
@@ -17,7 +14,7 @@ span-end-requires c κs = search needs
 
 -- return AtomJudged::Not(6);
 returns-2 : tie.Need-returns-2
-returns-2 c = ?
+returns-2 c = search negative-mixed
 
 -- if s[from] == b'0' {
 shared-slice-read-if3 : tie.Need-shared-slice-read-if3
@@ -25,7 +22,7 @@ shared-slice-read-if3 c = search needs
 
 -- return AtomJudged::Not(8);
 returns-3 : tie.Need-returns-3
-returns-3 c = ?
+returns-3 c = search negative-zero
 
 -- let v = numbers::value(s, from, to);
 value-requires : tie.Need-value-requires
@@ -33,15 +30,15 @@ value-requires c κs = search needs
 
 -- return AtomJudged::Not(8);
 returns-4 : tie.Need-returns-4
-returns-4 c = ?
+returns-4 c = search negative-large
 
 -- AtomJudged::Is(Val { tag: 1, word: v - 1 })
 sub-t10 : tie.Need-sub-t10
-sub-t10 c = ?
+sub-t10 c = search negative-some
 
 -- fn judge_negative(s: &[u8], from: usize, to: usize) -> AtomJudged
 returns-5 : tie.Need-returns-5
-returns-5 c = ?
+returns-5 c = search negative-good
 
 pub judge-negative-spec : {M : Type 1} → statement M
 judge-negative-spec =

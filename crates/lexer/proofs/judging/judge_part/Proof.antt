@@ -1,17 +1,12 @@
-use native.Mathlib.Omega.{arith}
+-- `judge_part` judges what stands where a part may stand, by its first byte. Assumes nothing.
 use borrow.Author.Needs.{needs}
+use Rattle.lexer.proofs.Judged.{part-none, part-selector, part-plain, part-other}
 use Rattle.lexer.proofs.judging.judge_part.Statement.{statement}
 use Rattle.lexer.proofs.judging.judge_part.Tie as tie
-use Rattle.lexer.proofs.judging.judge_part.Reads as reads
-use Rattle.lexer.proofs.judging.judge_part.Lts as lts
-use Rattle.lexer.proofs.classes.is_digit.Reads as is-digit-reads
-use Rattle.lexer.proofs.classes.is_letter.Reads as is-letter-reads
-use Rattle.lexer.proofs.judging.judge_plain.Reads as judge-plain-reads
-use Rattle.lexer.proofs.judging.judge_selector.Reads as judge-selector-reads
 
 -- return PartJudged::Not(6);
 returns : tie.Need-returns
-returns c = ?
+returns c = search part-none
 
 -- let b = s[p];
 shared-slice-read-b : tie.Need-shared-slice-read-b
@@ -31,7 +26,7 @@ judge-selector-requires c κs = search needs
 
 -- return judge_selector(s, p, p + n);
 returns-2 : tie.Need-returns-2
-returns-2 c = ?
+returns-2 c = search part-selector
 
 -- if classes::is_letter(b) {
 is-letter-requires : tie.Need-is-letter-requires
@@ -47,11 +42,11 @@ judge-plain-requires c κs = search needs
 
 -- return judge_plain(s, p, p + n);
 returns-3 : tie.Need-returns-3
-returns-3 c = ?
+returns-3 c = search part-plain
 
 -- pub fn judge_part(s: &[u8], p: usize, n: usize) -> PartJudged
 returns-4 : tie.Need-returns-4
-returns-4 c = ?
+returns-4 c = search part-other
 
 pub judge-part-spec : {M : Type 1} → statement M
 judge-part-spec =

@@ -1,12 +1,8 @@
-use native.Mathlib.Omega.{arith}
+-- `judge_plain` judges a word where a part may stand. Assumes nothing.
 use borrow.Author.Needs.{needs}
+use Rattle.lexer.proofs.Judged.{plain-refused, plain-primitive, plain-name}
 use Rattle.lexer.proofs.judging.judge_plain.Statement.{statement}
 use Rattle.lexer.proofs.judging.judge_plain.Tie as tie
-use Rattle.lexer.proofs.judging.judge_plain.Reads as reads
-use Rattle.lexer.proofs.judging.judge_plain.Lts as lts
-use Rattle.lexer.proofs.judging.judge_word.Reads as judge-word-reads
-use Rattle.lexer.proofs.packing.pack.Reads as pack-reads
-use Rattle.lexer.proofs.vocabulary.find_word.Reads as find-word-reads
 
 -- let refused = judge_word(s, from, to, Class::Name);
 judge-word-requires : tie.Need-judge-word-requires
@@ -14,7 +10,7 @@ judge-word-requires c κs = search needs
 
 -- return PartJudged::Not(refused);
 returns : tie.Need-returns
-returns c = ?
+returns c = search plain-refused
 
 -- let code = vocabulary::find_word(s, from, to);
 find-word-requires : tie.Need-find-word-requires
@@ -22,7 +18,7 @@ find-word-requires c κs = search needs
 
 -- return PartJudged::Primitive(code);
 returns-2 : tie.Need-returns-2
-returns-2 c = ?
+returns-2 c = search plain-primitive
 
 -- PartJudged::Name(packing::pack(s, from, to))
 pack-requires : tie.Need-pack-requires
@@ -30,7 +26,7 @@ pack-requires c κs = ?
 
 -- fn judge_plain(s: &[u8], from: usize, to: usize) -> PartJudged
 returns-3 : tie.Need-returns-3
-returns-3 c = ?
+returns-3 c = search plain-name
 
 pub judge-plain-spec : {M : Type 1} → statement M
 judge-plain-spec =

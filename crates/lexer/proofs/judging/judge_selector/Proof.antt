@@ -1,13 +1,8 @@
-use native.Mathlib.Omega.{arith}
+-- `judge_selector` judges digits and what stands behind them, a law for each way out. Assumes nothing.
 use borrow.Author.Needs.{needs}
+use Rattle.lexer.proofs.Judged.{select-not, select-is, selector-mixed, right-not, right-is}
 use Rattle.lexer.proofs.judging.judge_selector.Statement.{statement}
 use Rattle.lexer.proofs.judging.judge_selector.Tie as tie
-use Rattle.lexer.proofs.judging.judge_selector.Reads as reads
-use Rattle.lexer.proofs.judging.judge_selector.Lts as lts
-use Rattle.lexer.proofs.judging.is_r.Reads as is-r-reads
-use Rattle.lexer.proofs.judging.is_selector.Reads as is-selector-reads
-use Rattle.lexer.proofs.numbers.value.Reads as value-reads
-use Rattle.lexer.proofs.reader.span_end.Reads as span-end-reads
 
 -- let end = reader::span_end(s, from, to, Class::Digit);
 span-end-requires : tie.Need-span-end-requires
@@ -19,7 +14,7 @@ is-selector-requires c κs = search needs
 
 -- return PartJudged::Not(8);
 returns : tie.Need-returns
-returns c = ?
+returns c = search select-not
 
 -- return PartJudged::Select(numbers::value(s, from, end) as u32);
 value-requires : tie.Need-value-requires
@@ -31,7 +26,7 @@ cast-t10 c = search needs
 
 -- return PartJudged::Select(numbers::value(s, from, end) as u32);
 returns-2 : tie.Need-returns-2
-returns-2 c = ?
+returns-2 c = search select-is
 
 -- if !is_r(s, end, to) {
 is-r-requires : tie.Need-is-r-requires
@@ -39,7 +34,7 @@ is-r-requires c κs = search needs
 
 -- return PartJudged::Not(6);
 returns-3 : tie.Need-returns-3
-returns-3 c = ?
+returns-3 c = search selector-mixed
 
 -- if !is_selector(s, from, end) {
 is-selector-requires-2 : tie.Need-is-selector-requires-2
@@ -47,7 +42,7 @@ is-selector-requires-2 c κs = search needs
 
 -- return PartJudged::Not(8);
 returns-4 : tie.Need-returns-4
-returns-4 c = ?
+returns-4 c = search right-not
 
 -- PartJudged::SelectRight(numbers::value(s, from, end) as u32)
 value-requires-2 : tie.Need-value-requires-2
@@ -59,7 +54,7 @@ cast-t13 c = search needs
 
 -- fn judge_selector(s: &[u8], from: usize, to: usize) -> PartJudged
 returns-5 : tie.Need-returns-5
-returns-5 c = ?
+returns-5 c = search right-is
 
 pub judge-selector-spec : {M : Type 1} → statement M
 judge-selector-spec =

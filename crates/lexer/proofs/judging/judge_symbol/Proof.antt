@@ -1,11 +1,8 @@
-use native.Mathlib.Omega.{arith}
+-- `judge_symbol` judges a word where an object may stand. Assumes nothing.
 use borrow.Author.Needs.{needs}
+use Rattle.lexer.proofs.Judged.{symbol-refused, symbol-good}
 use Rattle.lexer.proofs.judging.judge_symbol.Statement.{statement}
 use Rattle.lexer.proofs.judging.judge_symbol.Tie as tie
-use Rattle.lexer.proofs.judging.judge_symbol.Reads as reads
-use Rattle.lexer.proofs.judging.judge_symbol.Lts as lts
-use Rattle.lexer.proofs.judging.judge_word.Reads as judge-word-reads
-use Rattle.lexer.proofs.packing.pack.Reads as pack-reads
 
 -- let refused = judge_word(s, from, to, Class::Symbol);
 judge-word-requires : tie.Need-judge-word-requires
@@ -13,7 +10,7 @@ judge-word-requires c κs = search needs
 
 -- return AtomJudged::Not(refused);
 returns : tie.Need-returns
-returns c = ?
+returns c = search symbol-refused
 
 -- let word = packing::pack(s, from, to);
 pack-requires : tie.Need-pack-requires
@@ -21,7 +18,7 @@ pack-requires c κs = ?
 
 -- fn judge_symbol(s: &[u8], from: usize, to: usize) -> AtomJudged
 returns-2 : tie.Need-returns-2
-returns-2 c = ?
+returns-2 c = search symbol-good
 
 pub judge-symbol-spec : {M : Type 1} → statement M
 judge-symbol-spec = tie.close (tie.spec judge-word-requires returns pack-requires returns-2)

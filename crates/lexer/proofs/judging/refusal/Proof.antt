@@ -1,12 +1,8 @@
-use native.Mathlib.Omega.{arith}
+-- `refusal` gives 9 for a word over 12 characters, 6 for all else. Assumes nothing.
 use borrow.Author.Needs.{needs}
+use Rattle.lexer.proofs.Judged.{refusal-mark, refusal-long, refusal-short}
 use Rattle.lexer.proofs.judging.refusal.Statement.{statement}
 use Rattle.lexer.proofs.judging.refusal.Tie as tie
-use Rattle.lexer.proofs.judging.refusal.Reads as reads
-use Rattle.lexer.proofs.judging.refusal.Lts as lts
-use Rattle.lexer.proofs.classes.byte_at.Reads as byte-at-reads
-use Rattle.lexer.proofs.classes.is_letter.Reads as is-letter-reads
-use Rattle.lexer.proofs.reader.size_at.Reads as size-at-reads
 
 -- if !classes::is_letter(classes::byte_at(s, p)) {
 byte-at-requires : tie.Need-byte-at-requires
@@ -18,7 +14,7 @@ is-letter-requires c κs = search needs
 
 -- return 6;
 returns : tie.Need-returns
-returns c = ?
+returns c = search refusal-mark
 
 -- if 12 < reader::size_at(s, p) {
 size-at-requires : tie.Need-size-at-requires
@@ -26,11 +22,11 @@ size-at-requires c κs = search needs
 
 -- return 9;
 returns-2 : tie.Need-returns-2
-returns-2 c = ?
+returns-2 c = search refusal-long
 
 -- pub fn refusal(s: &[u8], p: usize) -> u32
 returns-3 : tie.Need-returns-3
-returns-3 c = ?
+returns-3 c = search refusal-short
 
 pub refusal-spec : {M : Type 1} → statement M
 refusal-spec =

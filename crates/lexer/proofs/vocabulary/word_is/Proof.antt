@@ -60,7 +60,10 @@ loop-less c = search needs
 
 -- while i < to {
 loop-again : tie.Need-loop-again Inv-loop μ-loop
-loop-again c = (search word-on, omega arith, omega arith)
+loop-again c =
+    let l = c .before .before .before .before in
+    let e = word-on _ _ _ _ _ (l .before .before .before .before .pre .1) (l .before .before .word-length .ensures .0) (l .before .if1 .left) (omega arith) (c .before .before .word-byte .ensures) (omega arith) (l .loop .inv .0) (c .if2 .left) in
+    (e, omega arith, omega arith)
 
 -- fn word_is(s: &[u8], from: usize, to: usize, code: u32) -> bool
 returns-3 : tie.Need-returns-3 Inv-loop μ-loop
