@@ -9,7 +9,8 @@ ghost use Rattle.language.specs.Judging.{findOp};
 ghost use Rattle.lexer.specs.Vocabulary.{rowByte, spelledAt, ruleAt, codeOf};
 
 // For each word, in the order of the definitions: its cell rule, its length, and its letters up to the seventh place.
-const TABLE: [u8; 207] = *b"02id     02tl     04atom   04null   02eq     02lt     06length 03add    03sub    03mul    03div    03and    02or     03not    15apndl  23tlr    37reverse34rotl   34rotr   45apndr  55distl  55distr  65trans  ";
+const TABLE: [u8; 207] =
+    *b"02id     02tl     04atom   04null   02eq     02lt     06length 03add    03sub    03mul    03div    03and    02or     03not    15apndl  23tlr    37reverse34rotl   34rotr   45apndr  55distl  55distr  65trans  ";
 
 // The byte j of a word's row.
 fn row_byte(code: u32, j: usize) -> u8
