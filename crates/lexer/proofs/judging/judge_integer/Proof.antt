@@ -1,5 +1,7 @@
 -- `judge_integer` judges a number without a sign, a law for each way out. Assumes nothing.
 use borrow.Author.Needs.{needs}
+use native.Mathlib.Omega.{arith}
+use Prim.Native.Nat.{_<_}
 use Rattle.lexer.proofs.Judged.{integer-mixed, integer-zero, integer-large, integer-good}
 use Rattle.lexer.proofs.judging.judge_integer.Statement.{statement}
 use Rattle.lexer.proofs.judging.judge_integer.Tie as tie
@@ -26,7 +28,9 @@ value-requires c κs = search needs
 
 -- return AtomJudged::Not(8);
 returns-3 : tie.Need-returns-3
-returns-3 c = search integer-large
+returns-3 c =
+    let h : 2147483647 < c .before .value .result = omega arith in
+    search integer-large
 
 -- fn judge_integer(s: &[u8], from: usize, to: usize) -> AtomJudged
 returns-4 : tie.Need-returns-4

@@ -1,5 +1,7 @@
 -- `judge_word` refuses a word by its length, then by its bytes. Assumes nothing.
 use borrow.Author.Needs.{needs}
+use native.Mathlib.Omega.{arith}
+use Prim.Native.Nat.{_-_, _<_}
 use Rattle.lexer.proofs.Judged.{word-long, word-mixed, word-good}
 use Rattle.lexer.proofs.judging.judge_word.Statement.{statement}
 use Rattle.lexer.proofs.judging.judge_word.Tie as tie
@@ -10,7 +12,10 @@ sub-if1 c = search needs
 
 -- return 9;
 returns : tie.Need-returns
-returns c = search word-long
+returns c =
+    let a = c .before .before .args in
+    let h : 12 < a .to - a .from = omega arith in
+    search word-long
 
 -- if reader::span_end(s, from, to, class) < to {
 span-end-requires : tie.Need-span-end-requires
