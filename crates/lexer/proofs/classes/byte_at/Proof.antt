@@ -4,8 +4,6 @@ use lib.ListN.{List·getD-eq-default}
 use borrow.Author.Needs.{needs}
 use Rattle.lexer.proofs.classes.byte_at.Statement.{statement}
 use Rattle.lexer.proofs.classes.byte_at.Tie as tie
-use Rattle.lexer.proofs.classes.byte_at.Reads as reads
-use Rattle.lexer.proofs.classes.byte_at.Lts as lts
 
 -- if p < s.len() { s[p] } else { 0 }
 shared-slice-read-result : tie.Need-shared-slice-read-result

@@ -3,13 +3,6 @@ use native.Mathlib.Omega.{arith}
 use borrow.Author.Needs.{needs}
 use Rattle.lexer.proofs.classes.passes.Statement.{statement}
 use Rattle.lexer.proofs.classes.passes.Tie as tie
-use Rattle.lexer.proofs.classes.passes.Reads as reads
-use Rattle.lexer.proofs.classes.passes.Lts as lts
-use Rattle.lexer.proofs.classes.is_blank.Reads as is-blank-reads
-use Rattle.lexer.proofs.classes.is_digit.Reads as is-digit-reads
-use Rattle.lexer.proofs.classes.is_name_byte.Reads as is-name-byte-reads
-use Rattle.lexer.proofs.classes.is_symbol_byte.Reads as is-symbol-byte-reads
-use Rattle.lexer.proofs.classes.is_word_byte.Reads as is-word-byte-reads
 
 -- Class::Blank => is_blank(b),
 enum-told : tie.Need-enum-told
