@@ -16,6 +16,7 @@ use Rattle.primitives.specs.declared.Ended.the-variants.{Done, Stop}
 use Rattle.evaluator.specs.Ring.{Kept, Finished, Stopped, fell, ran-out, Ends, ends-done, ends-stop}
 use Rattle.language.specs.Bytes.{bytes}
 use Rattle.language.specs.Forms.{Prog, mainForm}
+use Rattle.language.specs.Accepted.{IsName}
 use Rattle.language.specs.Meanings.{meaning}
 use Rattle.language.specs.Evaluation.{Out, value, bottom, spent, charged, inside, apply, lookup, noStep}
 use Rattle.language.specs.Charging.{stepCharge, onCharge}
@@ -26,7 +27,7 @@ use Rattle.cells.proofs.Reps.{same-refl, rep-ext}
 use Rattle.primitives.specs.Ends.{Made, Agree, Gives, gives-value, gives-bottom, gives-spent, Leaf, Sinks as Sinks-leaf}
 use Rattle.linker.specs.Linked.{FormIs, is-op, is-select, is-select-right, is-name, is-chain, is-construct, is-insert, is-all, is-condition, is-while, is-constant, is-bu, FormAt, form-at, DefAt, kindAt, constantAt, linkAt}
 use Rattle.evaluator.specs.Applying.{Setting, by, At, Given, Applied, Falls, Sinks, Chained, Built, Mapped, Inserted, Bound, Chosen, Repeated, Named, nameBy, Ran}
-use Rattle.evaluator.specs.Stub.{WordApplied}
+use Rattle.evaluator.specs.Stub.{Coded}
 use Rattle.evaluator.proofs.Steps.{Since, since-step, ends-since, ends-eq, gives-eq, kept-refl, agree-refl, given-charged, sinks-le}
 
 -- the number is no kind
@@ -46,7 +47,7 @@ pub record Other (κ : ℕ) : Type 0 where
 
 -- what was done at each kind
 pub data Dispatched (F C W : List ℕ) (top i : ℕ) (v : Val) (m : Meter) : ℕ → Ended → List ℕ → List ℕ → Type 0 where
-  on-word : {code : ℕ} {r : Ended} {C₁ : List ℕ} → code ≡ field F i 2 → WordApplied C code v m r C₁ → Dispatched F C W top i v m 1 r C₁ W
+  on-word : {code : ℕ} {r : Ended} {C₁ : List ℕ} → code ≡ field F i 2 → Coded C v m code r C₁ → Dispatched F C W top i v m 1 r C₁ W
   on-select : {k : ℕ} {r : Ended} → k ≡ field F i 2 → Leaf C v m (select k) r C → Dispatched F C W top i v m 2 r C W
   on-select-right : {k : ℕ} {r : Ended} → k ≡ field F i 2 → Leaf C v m (selectRight k) r C → Dispatched F C W top i v m 3 r C W
   on-name : {d : ℕ} {r : Ended} {C₁ W₁ : List ℕ} → d ≡ field F i 1 → Named F C W top d v m r C₁ W₁ → Dispatched F C W top i v m 4 r C₁ W₁
@@ -84,10 +85,10 @@ behind : (i h : ℕ) → i < 2048 → h ≡ (i + 1) % 4294967296 → i + 1 ≡ h
 behind i h l e = omega arith
 
 dispatch : {F C W C₁ W₁ : List ℕ} {κ top i : ℕ} {v : Val} {m : Meter} {f : Form} {x : Obj} {r : Ended} (S : Setting) (k : ℕ) → i < 2048 → FormIs F (S .cells) (S .few) (S .root) κ i f → Dispatched F C W top i v m κ r C₁ W₁ → Given F S k C W m v x → Ends C W top m (inside (by S k) k one (S .prog) f x m) C₁ W₁ r
-dispatch {top = top} {r = r} S k b (is-op {o = o} p) (on-word q l) g = leaf top r (l .leaf o (q ∙ p)) g
+dispatch {top = top} {r = r} S k b (is-op {o = o} p) (on-word q l) g = leaf top r (l .means o (sym (q ∙ p))) g
 dispatch {C = C} {top = top} {v = v} {m = m} {r = r} S k b (is-select {k = n} p) (on-select q l) g = leaf top r (subst (λ (j : ℕ). Leaf C v m (select j) r C) (q ∙ p) l) g
 dispatch {C = C} {top = top} {v = v} {m = m} {r = r} S k b (is-select-right {k = n} p) (on-select-right q l) g = leaf top r (subst (λ (j : ℕ). Leaf C v m (selectRight j) r C) (q ∙ p) l) g
-dispatch {x = x} S k b (is-name {w = w} p) (on-name q c) g = c .means S k w x (q ∙ p) g
+dispatch {x = x} S k b (is-name {w = w} n p) (on-name q c) g = c .means S k w x n (q ∙ p) g
 dispatch {x = x} S k b (is-chain {fs = fs} p) (on-chain q c) g = c .means S k fs x (rw q p) g
 dispatch {i = i} {x = x} S k b (is-construct {fs = fs} e p) (on-construct {h = h} q z c) g = c .means S k fs x (e ∙ sym z) (rw (behind i h b q) at p) g
 dispatch {i = i} {x = x} S k b (is-insert {f = f} p) (on-insert {h = h} q c) g = c .means S k f x (rw (behind i h b q) at p) g
@@ -99,7 +100,7 @@ dispatch {i = i} {x = x} S k b (is-bu {f = f} {x = y} p p₁) (on-bu {h = h} q z
 dispatch S k b (is-op p) (on-other h) g = absurd (h .not1 refl)
 dispatch S k b (is-select p) (on-other h) g = absurd (h .not2 refl)
 dispatch S k b (is-select-right p) (on-other h) g = absurd (h .not3 refl)
-dispatch S k b (is-name p) (on-other h) g = absurd (h .not4 refl)
+dispatch S k b (is-name n p) (on-other h) g = absurd (h .not4 refl)
 dispatch S k b (is-chain p) (on-other h) g = absurd (h .not5 refl)
 dispatch S k b (is-construct e p) (on-other h) g = absurd (h .not6 refl)
 dispatch S k b (is-insert p) (on-other h) g = absurd (h .not7 refl)
@@ -155,6 +156,9 @@ pub apply-other : {F C W : List ℕ} {κ top i : ℕ} {v : Val} {m m₁ : Meter}
 apply-other a b q n1 n2 n3 n4 n5 n6 n7 n8 n9 n10 n12 n16 = applied a b q refl (on-other (record { not1 = n1; not2 = n2; not3 = n3; not4 = n4; not5 = n5; not6 = n6; not7 = n7; not8 = n8; not9 = n9; not10 = n10; not12 = n12; not16 = n16 }))
 
 -- ---- a whole run
+main-name : IsName (bytes "main")
+main-name = (refl, refl, omega arith, refl)
+
 ends-gives : {C W C₁ W₁ : List ℕ} {top : ℕ} {m : Meter} {e : Out Obj} {r : Ended} → Ends C W top m e C₁ W₁ r → Gives C m C₁ e r
 ends-gives (ends-done f) = gives-eq (f .is) (gives-value (f .made))
 ends-gives (ends-stop (fell e z a)) = gives-eq e (gives-bottom z a)
@@ -169,7 +173,7 @@ run-means : {F C W C₁ W₁ : List ℕ} {d : ℕ} {v : Val} {m m₁ : Meter} {x
 run-means S zero l e c n q g = absurd (omega (arith, c .steps))
 run-means {C = C} {W} {m = m} {x = x} S (suc k) l e c n q g =
     ends-eq (step-asked m (λ m₁. inside (by S k) k one (S .prog) mainForm x m₁) ∙ ap (λ u. onCharge u noStep (λ m₁. inside (by S k) k one (S .prog) mainForm x m₁)) e)
-    (ends-since (since-step C W 0 c) (n .means S k (bytes "main") x q (given-charged 1 0 k c (omega arith) g)))
+    (ends-since (since-step C W 0 c) (n .means S k (bytes "main") x main-name q (given-charged 1 0 k c (omega arith) g)))
 
 pub ran : {F C W C₁ W₁ : List ℕ} {d : ℕ} {v : Val} {m m₁ : Meter} {ch : Charge} {r : Ended} → ch ≡ stepCharge m → ch ≡ Granted m₁ → length W ≡ 16384 → Named F C W 0 d v m₁ r C₁ W₁ → Ran F C d v m r C₁
 ran {C = C} {m = m} a b l n =

@@ -9,6 +9,7 @@ use mathlib.Core.Option.{Option, some, none}
 use lib.ListN.{length}
 use Rattle.language.specs.Objects.{Obj, truthOf, Truth, isT, isF, neither}
 use Rattle.language.specs.Forms.{Form, Forms, stop, _&_, _+&_}
+use Rattle.language.specs.Accepted.{IsName}
 use Rattle.language.specs.Evaluation.{Out, value, bottom, spent, bind, close, withNames, Apply, apply, lookup, askName, chainBy, decide, noName}
 use Rattle.language.specs.Charging.{stepCharge, cellsCharge, nameCharge, closed, onCharge}
 use Rattle.language.specs.declared.Meter.{Meter}
@@ -208,7 +209,7 @@ none-named ev x m z (no-def e) = refl
 none-named ev x m z (a-def {i = i} e f) = absurd (omega arith)
 
 pub name-none : {F C W : List ℕ} {top d : ℕ} {v : Val} {m : Meter} → d ≡ 0 → Named F C W top d v m (Stop 21 m) C W
-name-none {m = m} z = record { sinks = tt; means = λ S k w x q gv. ends-stop (fell (none-named (by S k) x m (sym q ∙ z) (gv .defs w)) refl (agree-refl m)) }
+name-none {m = m} z = record { sinks = tt; means = λ S k w x nm q gv. ends-stop (fell (none-named (by S k) x m (sym q ∙ z) (gv .defs w nm)) refl (agree-refl m)) }
 
 -- a defined name is asked for, and then its body
 body-asked : {b : Option Form} (ev : Apply) (f : Form) (x : Obj) (m : Meter) → b ≡ some f → nameBy ev b x m ≡ onCharge (nameCharge m) noName (λ m₁. close (m .names) (ev f x m₁))
@@ -224,22 +225,22 @@ body-of : {F C : List ℕ} {n d : ℕ} {root : List ℕ → ℕ} {b : Option For
 body-of z (no-def e) = absurd (z e)
 body-of {d = d} z (a-def {i = i} {f = f} e a) = let q : d - 1 ≡ i = omega arith in (f, refl, rw q a)
 
-body : {F C W : List ℕ} {S : Setting} {k d : ℕ} {v : Val} {m : Meter} {x : Obj} (w : List ℕ) → (d ≡ 0 → ⊥) → d ≡ S .root w → Given F S k C W m v x → Body F S w d
-body {F} {S = S} w z q gv =
-    let b = body-of (λ e. z (q ∙ e)) (gv .defs w) in
+body : {F C W : List ℕ} {S : Setting} {k d : ℕ} {v : Val} {m : Meter} {x : Obj} (w : List ℕ) → IsName w → (d ≡ 0 → ⊥) → d ≡ S .root w → Given F S k C W m v x → Body F S w d
+body {F} {S = S} w nm z q gv =
+    let b = body-of (λ e. z (q ∙ e)) (gv .defs w nm) in
     record { form = b .0; is = b .1; at = subst (λ (j : ℕ). At F S (j - 1) (b .0)) (sym q) (b .2) }
 
 pub name-full : {F C W : List ℕ} {top d : ℕ} {v : Val} {m n : Meter} {ch : Charge} → (d ≡ 0 → ⊥) → ch ≡ nameCharge m → ch ≡ Spent n → Named F C W top d v m (Stop 23 n) C W
 name-full {m = m} {n} z a b = record {
   sinks = tt;
-  means = λ S k w x q gv. let y = body w z q gv in
+  means = λ S k w x nm q gv. let y = body w nm z q gv in
       ends-stop (ran-out (body-asked (by S k) (y .form) x m (y .is) ∙ ap (λ u. onCharge u noName (λ m₁. close (m .names) (by S k (y .form) x m₁))) (sym a ∙ b)) refl (agree-refl n));
 }
 
 pub name-stop : {F C W C₁ W₁ : List ℕ} {top d a : ℕ} {v : Val} {m m₁ n : Meter} {ch : Charge} {r : Ended} → (d ≡ 0 → ⊥) → ch ≡ nameCharge m → ch ≡ Granted m₁ → Applied F C W top (d - 1) v m₁ r C₁ W₁ → r ≡ Stop a n → Named F C W top d v m (Stop a n) C₁ W₁
 name-stop {m = m} {m₁} z a b p e = record {
   sinks = tt;
-  means = λ S k w x q gv. let y = body w z q gv in
+  means = λ S k w x nm q gv. let y = body w nm z q gv in
       let c = name-granted m (sym a ∙ b) in
       ends-stop (stopped-eq (body-asked (by S k) (y .form) x m (y .is) ∙ ap (λ u. onCharge u noName (λ m₁. close (m .names) (by S k (y .form) x m₁))) (sym a ∙ b))
       (stopped-close (m .names) (gave-stop (applied-as e p .means S k (y .form) x (y .at) (given-charged 0 1 k c (omega arith) gv)))));
@@ -277,7 +278,7 @@ name-done {m = m} {m₁} {n} {n₁} z l a b p e cl =
     let p₁ = applied-as e p in
     record {
       sinks = closed-sinks m n n₁ (omega (arith, p₁ .falls, c .steps)) cl;
-      means = λ S k w x q gv. let y = body w z q gv in
+      means = λ S k w x nm q gv. let y = body w nm z q gv in
           ends-done (closed-body (body-asked (by S k) (y .form) x m (y .is) ∙ ap (λ u. onCharge u noName (λ m₁. close (m .names) (by S k (y .form) x m₁))) (sym a ∙ b)) l c cl
           (gave (p₁ .means S k (y .form) x (y .at) (given-charged 0 1 k c (omega arith) gv))));
     }

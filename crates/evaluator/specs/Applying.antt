@@ -9,6 +9,7 @@ use Rattle.language.specs.Forms.{Form, construct, Forms, Prog, count, mainForm}
 use Rattle.language.specs.Bytes.{bytes}
 use Rattle.language.specs.Meanings.{one, pair}
 use Rattle.language.specs.Evaluation.{Out, value, bottom, bind, Apply, apply, lookup, askName, askCells, chainBy, constructBy, gathered, applyAllOn, insertOn, whileBy, decide}
+use Rattle.language.specs.Accepted.{IsName}
 use Rattle.language.specs.declared.Meter.{Meter}
 use Rattle.language.specs.declared.Val.{Val}
 use Rattle.cells.specs.Cells.{Rep, Same, Room, free}
@@ -43,7 +44,7 @@ LastAt F S j fs = UpTo F (S .cells) (S .few) (S .root) j fs
 
 -- what an application is given: the program in F with its constants, room, a whole ring, enough fuel, the argument
 pub record Given (F : List ℕ) (S : Setting) (k : ℕ) (C W : List ℕ) (m : Meter) (v : Val) (x : Obj) : Type 0 where
-  pub defs : (w : List ℕ) → DefAt F (S .cells) (S .few) (S .root) (S .root w) (lookup w (S .prog))
+  pub defs : (w : List ℕ) → IsName w → DefAt F (S .cells) (S .few) (S .root) (S .root w) (lookup w (S .prog))
   pub still : Same (S .cells) C (S .few)
   pub low : S .few ≤ free C m
   pub room : Room C m
@@ -131,7 +132,7 @@ nameBy ap b x m = elim b [ none ↦ bottom m | some f ↦ askName m (λ m₁. ap
 -- a name whose body's record and one is d, 0 if it is undefined
 pub record Named (F C W : List ℕ) (top d : ℕ) (v : Val) (m : Meter) (r : Ended) (C′ W′ : List ℕ) : Type 0 where
   pub sinks : Sinks r m
-  pub means : (S : Setting) (k : ℕ) (w : List ℕ) (x : Obj) → d ≡ S .root w → Given F S k C W m v x → Ends C W top m (nameBy (by S k) (lookup w (S .prog)) x m) C′ W′ r
+  pub means : (S : Setting) (k : ℕ) (w : List ℕ) (x : Obj) → IsName w → d ≡ S .root w → Given F S k C W m v x → Ends C W top m (nameBy (by S k) (lookup w (S .prog)) x m) C′ W′ r
 
 abbrev pub PutAt : Ended → List ℕ → List ℕ → ℕ → Type 0
 PutAt (Done v m′) W W′ t = W′ ≡ holdAt W t v
@@ -162,4 +163,4 @@ pub record Judged (v : Val) (r : ℕ) : Type 0 where
 
 -- A whole run: main, whose body's record and one is d, by the definition with the steps as its fuel.
 pub record Ran (F C : List ℕ) (d : ℕ) (v : Val) (m : Meter) (r : Ended) (C′ : List ℕ) : Type 0 where
-  pub means : (P : Prog) (root : List ℕ → ℕ) (x : Obj) → ((w : List ℕ) → DefAt F C (free C m) root (root w) (lookup w P)) → d ≡ root (bytes "main") → Room C m → Rep C (free C m) v x → Gives C m C′ (apply (m .steps) one P mainForm x m) r
+  pub means : (P : Prog) (root : List ℕ → ℕ) (x : Obj) → ((w : List ℕ) → IsName w → DefAt F C (free C m) root (root w) (lookup w P)) → d ≡ root (bytes "main") → Room C m → Rep C (free C m) v x → Gives C m C′ (apply (m .steps) one P mainForm x m) r

@@ -8,8 +8,8 @@ use Rattle.language.specs.declared.Meter.{Meter}
 use Rattle.language.specs.declared.Val.{Val}
 use Rattle.primitives.specs.declared.Ended.{Ended}
 use Rattle.primitives.specs.Ends.{Leaf, Sinks}
-use Rattle.linker.specs.Codes.{codeOf}
+use Rattle.lexer.specs.Vocabulary.{opCode}
 
-pub record WordApplied (C : List ℕ) (code : ℕ) (v : Val) (m : Meter) (r : Ended) (C′ : List ℕ) : Type 0 where
+pub record Coded (C : List ℕ) (v : Val) (m : Meter) (code : ℕ) (r : Ended) (C′ : List ℕ) : Type 0 where
   pub sinks : Sinks r m
-  pub leaf : (o : Op) → code ≡ codeOf o → Leaf C v m (op o) r C′
+  pub means : (o : Op) → opCode o ≡ code → Leaf C v m (op o) r C′

@@ -18,7 +18,7 @@ pub fn apply(f: &[u32], c: &mut [u32], w: &mut [u32], top: u32, i: u32, v: Val, 
     let h = inner(i);
     let shape = kind(f, i);
     match shape {
-        1 => apply_word(c, low(f, i), v, k),
+        1 => apply_word(low(f, i), c, v, k),
         2 => select(c, low(f, i), v, k),
         3 => select_right(c, low(f, i), v, k),
         4 => name(f, c, w, top, arity(f, i), v, k),

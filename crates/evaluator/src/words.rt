@@ -1,12 +1,12 @@
 // STUB until crate primitives has them.
 ghost use Rattle.language.specs.Forms.{select as sel, selectRight as selr};
 ghost use Rattle.primitives.specs.Ends.{Leaf};
-ghost use Rattle.evaluator.specs.Stub.{WordApplied};
+ghost use Rattle.evaluator.specs.Stub.{Coded};
 use language::{Meter, Val};
 use primitives::Ended;
 
-pub fn apply_word(c: &mut [u32], code: u32, v: Val, m: Meter) -> Ended
-    ensures { λ r. ⌜ WordApplied (now (c .entry)) code v m r (now (c .exit)) ⌝ }
+pub fn apply_word(code: u32, c: &mut [u32], v: Val, m: Meter) -> Ended
+    ensures { λ r. ⌜ Coded (now (c .entry)) v m code r (now (c .exit)) ⌝ }
 {
     tables::store(c, 0, 0);
     if code == 0 {

@@ -151,7 +151,7 @@ row-of : {C : List ℕ} {n : ℕ} {root : List ℕ → ℕ} (t u : List ℕ) (i 
 row-of t u i h s x y c (raw-op a b) = row-op (kind-is t u i 1 (omega arith) h a) (s .keep (i * 4 + 2) (omega arith) (omega arith) ∙ b)
 row-of t u i h s x y c (raw-select a b) = row-select (kind-is t u i 2 (omega arith) h a) (s .keep (i * 4 + 2) (omega arith) (omega arith) ∙ b)
 row-of t u i h s x y c (raw-select-right a b) = row-select-right (kind-is t u i 3 (omega arith) h a) (s .keep (i * 4 + 2) (omega arith) (omega arith) ∙ b)
-row-of t u i h s x y c (raw-name a b d) = absurd (y (ap (λ (z : ℕ). z % 32) a))
+row-of t u i h s x y c (raw-name g a b d) = absurd (y (ap (λ (z : ℕ). z % 32) a))
 row-of t u i h s x y c (raw-chain a) = absurd (x (ap (λ (z : ℕ). z % 32) a))
 row-of t u i h s x y c (raw-construct a) = row-construct (kind-is t u i 6 (omega arith) h a) (s .keep (i * 4 + 1) (omega arith) (omega arith) ∙ c)
 row-of t u i h s x y c (raw-insert a) = row-insert (kind-is t u i 7 (omega arith) h a)
@@ -179,7 +179,7 @@ chain-of : {C : List ℕ} {n : ℕ} {root : List ℕ → ℕ} (t t₁ : List ℕ
 chain-of t t₁ i r fs e l a b k (raw-op q q₂) bk ks bl = absurd (omega arith)
 chain-of t t₁ i r fs e l a b k (raw-select q q₂) bk ks bl = absurd (omega arith)
 chain-of t t₁ i r fs e l a b k (raw-select-right q q₂) bk ks bl = absurd (omega arith)
-chain-of t t₁ i r fs e l a b k (raw-name q q₂ q₃) bk ks bl = absurd (omega arith)
+chain-of t t₁ i r fs e l a b k (raw-name g q q₂ q₃) bk ks bl = absurd (omega arith)
 chain-of t t₁ i r fs e l a b k (raw-construct q) bk ks bl = absurd (omega arith)
 chain-of t t₁ i r fs e l a b k (raw-insert q) bk ks bl = absurd (omega arith)
 chain-of t t₁ i r fs e l a b k (raw-all q) bk ks bl = absurd (omega arith)
@@ -222,7 +222,7 @@ name-of D many t i v fs e l a b k ve (raw-condition q) ks = absurd (omega arith)
 name-of D many t i v fs e l a b k ve (raw-while q) ks = absurd (omega arith)
 name-of D many t i v fs e l a b k ve (raw-constant q q₂ q₃) ks = absurd (omega arith)
 name-of D many t i v fs e l a b k ve (raw-bu q q₂ q₃) ks = absurd (omega arith)
-name-of D many t i v fs e l a b k ve (raw-name {w = w} q q₂ q₃) ks =
+name-of D many t i v fs e l a b k ve (raw-name {w = w} g q q₂ q₃) ks =
     let t₂ : List ℕ = set t (i * 4 + 1) v in
     let u : List ℕ = linkSet t₂ i (i + 1) in
     let len : length t₂ ≡ length t = length-set t (i * 4 + 1) v in
@@ -231,7 +231,7 @@ name-of D many t i v fs e l a b k ve (raw-name {w = w} q q₂ q₃) ks =
     let ar : field u i 1 ≡ rootIn D many w = link-other t₂ i (i + 1) (i * 4 + 1) (λ h₃. omega arith) ∙ getD-set-same t (i * 4 + 1) v 0 (omega arith) ∙ ve ∙ ap (λ (x : ℕ). rootFrom D many x (field t i 3) 0) q₂ ∙ ap (λ (x : ℕ). rootFrom D many (packed w % 4294967296) x 0) q₃ in
     let first : getD t₂ (i * 4) 0 ≡ 4 = getD-set-other t (i * 4 + 1) (i * 4) v 0 (λ h₃. omega arith) ∙ q in
     let kd : getD u (i * 4) 0 % 32 ≡ 4 % 32 = link-kind t₂ i (i + 1) (omega arith) ∙ ap (λ (x : ℕ). x % 32) first in
-    (a-kid {m = i + 1} {f = name w} {fs = fs} (tree {i = i} {f = name w} (omega arith) (row-name (ap grouped kd ∙ kind-of 4 (omega arith)) ar) no-kid)
+    (a-kid {m = i + 1} {f = name w} {fs = fs} (tree {i = i} {f = name w} (omega arith) (row-name {w = w} g (ap grouped kd ∙ kind-of 4 (omega arith)) ar) no-kid)
     (link-is t₂ i (i + 1) (omega arith) (omega arith)) (kids-kept (record { keep = λ j h₁ h₂. other j (λ h₃. omega arith) (λ h₃. omega arith) }) ks),
     record { keep = λ j h. other j (λ h₃. omega arith) (λ h₃. omega arith) })
 
@@ -246,7 +246,7 @@ raw-kept : {C : List ℕ} {n : ℕ} (t u : List ℕ) (i : ℕ) {f : Form} → ((
 raw-kept t u i s (raw-op a b) = raw-op (s (i * 4) (omega arith) ∙ a) (s (i * 4 + 2) (omega arith) ∙ b)
 raw-kept t u i s (raw-select a b) = raw-select (s (i * 4) (omega arith) ∙ a) (s (i * 4 + 2) (omega arith) ∙ b)
 raw-kept t u i s (raw-select-right a b) = raw-select-right (s (i * 4) (omega arith) ∙ a) (s (i * 4 + 2) (omega arith) ∙ b)
-raw-kept t u i s (raw-name a b c) = raw-name (s (i * 4) (omega arith) ∙ a) (s (i * 4 + 2) (omega arith) ∙ b) (s (i * 4 + 3) (omega arith) ∙ c)
+raw-kept t u i s (raw-name {w = w} g a b c) = raw-name {w = w} g (s (i * 4) (omega arith) ∙ a) (s (i * 4 + 2) (omega arith) ∙ b) (s (i * 4 + 3) (omega arith) ∙ c)
 raw-kept t u i s (raw-chain a) = raw-chain (s (i * 4) (omega arith) ∙ a)
 raw-kept t u i s (raw-construct a) = raw-construct (s (i * 4) (omega arith) ∙ a)
 raw-kept t u i s (raw-insert a) = raw-insert (s (i * 4) (omega arith) ∙ a)

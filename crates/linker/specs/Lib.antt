@@ -1,4 +1,3 @@
-pub mod Codes
 pub mod Linked
 pub mod Raw
 pub mod Linking

@@ -9,10 +9,11 @@ use lib.ListN.{getD}
 use Rattle.language.specs.Objects.{Obj}
 use Rattle.language.specs.Words.{Op}
 use Rattle.language.specs.Forms.{op, select, selectRight, Form, word, name, chain, construct, constant, insert, applyAll, bu, condition, while, Forms, stop, _&_, _+&_, count}
+use Rattle.language.specs.Accepted.{IsName}
 use Rattle.language.specs.declared.Val.{Val}
 use Rattle.tables.specs.Tables.{field}
 use Rattle.cells.specs.Cells.{Rep}
-use Rattle.linker.specs.Codes.{codeOf}
+use Rattle.lexer.specs.Vocabulary.{opCode}
 
 -- A record is [kind + 32 * link, arity, lo, hi]. The link is the record of the part to evaluate next: in a chain the one
 -- before, else the one behind; 0 for none. Kinds 12 to 15 are constants and count as 12, 16 to 19 are `{f,x}` and count as 16.
@@ -33,10 +34,10 @@ constantAt F i = record { tag = getD F (i * 4) 0 % 4; word = field F i 2 + 42949
 -- if it is undefined, as `root` says; the parts of a form begin behind it; a chain's lo is the record of its last part.
 mutual
   pub data FormIs (F C : List ℕ) (n : ℕ) (root : List ℕ → ℕ) : ℕ → ℕ → Form → Type 0 where
-    is-op : {i : ℕ} {o : Op} → field F i 2 ≡ codeOf o → FormIs F C n root 1 i (word (op o))
+    is-op : {i : ℕ} {o : Op} → field F i 2 ≡ opCode o → FormIs F C n root 1 i (word (op o))
     is-select : {i k : ℕ} → field F i 2 ≡ k → FormIs F C n root 2 i (word (select k))
     is-select-right : {i k : ℕ} → field F i 2 ≡ k → FormIs F C n root 3 i (word (selectRight k))
-    is-name : {i : ℕ} {w : List ℕ} → field F i 1 ≡ root w → FormIs F C n root 4 i (name w)
+    is-name : {i : ℕ} {w : List ℕ} → IsName w → field F i 1 ≡ root w → FormIs F C n root 4 i (name w)
     is-chain : {i : ℕ} {fs : Forms} → UpTo F C n root (field F i 2) fs → FormIs F C n root 5 i (chain fs)
     is-construct : {i : ℕ} {fs : Forms} → count fs ≡ field F i 1 → PartsAt F C n root (i + 1) fs → FormIs F C n root 6 i (construct fs)
     is-insert : {i : ℕ} {f : Form} → FormAt F C n root (i + 1) f → FormIs F C n root 7 i (insert f)

@@ -6,19 +6,20 @@ use lib.ListN.{getD, length}
 use Rattle.language.specs.Objects.{Obj}
 use Rattle.language.specs.Words.{Op}
 use Rattle.language.specs.Forms.{op, select, selectRight, Form, word, name, chain, construct, constant, insert, applyAll, bu, condition, while, Forms, stop, _&_, _+&_, count}
+use Rattle.language.specs.Accepted.{IsName}
 use Rattle.tables.specs.Tables.{field}
 use Rattle.cells.specs.Cells.{Rep}
-use Rattle.linker.specs.Codes.{codeOf}
+use Rattle.lexer.specs.Vocabulary.{opCode}
 use Rattle.linker.specs.Linked.{kindAt, linkAt, constantAt}
 use Rattle.linker.specs.Raw.{partsOf, Raw, Stands, rootIn}
 use Rattle.linker.specs.declared.Turned.{Turned}
 
 -- what a linked record says of a form that is no chain
 pub data Row (F C : List ℕ) (n : ℕ) (root : List ℕ → ℕ) (i : ℕ) : Form → Type 0 where
-  row-op : {o : Op} → kindAt F i ≡ 1 → field F i 2 ≡ codeOf o → Row F C n root i (word (op o))
+  row-op : {o : Op} → kindAt F i ≡ 1 → field F i 2 ≡ opCode o → Row F C n root i (word (op o))
   row-select : {k : ℕ} → kindAt F i ≡ 2 → field F i 2 ≡ k → Row F C n root i (word (select k))
   row-select-right : {k : ℕ} → kindAt F i ≡ 3 → field F i 2 ≡ k → Row F C n root i (word (selectRight k))
-  row-name : {w : List ℕ} → kindAt F i ≡ 4 → field F i 1 ≡ root w → Row F C n root i (name w)
+  row-name : {w : List ℕ} → IsName w → kindAt F i ≡ 4 → field F i 1 ≡ root w → Row F C n root i (name w)
   row-construct : {fs : Forms} → kindAt F i ≡ 6 → field F i 1 ≡ count fs → Row F C n root i (construct fs)
   row-insert : {f : Form} → kindAt F i ≡ 7 → Row F C n root i (insert f)
   row-all : {f : Form} → kindAt F i ≡ 8 → Row F C n root i (applyAll f)

@@ -7,11 +7,12 @@ use lib.Dec.{eqb}
 use lib.ListN.{getD, set}
 use Rattle.language.specs.Objects.{Obj}
 use Rattle.language.specs.Words.{Op}
+use Rattle.language.specs.Accepted.{IsName}
 use Rattle.language.specs.Packing.{packed}
 use Rattle.language.specs.Forms.{op, select, selectRight, Form, word, name, chain, construct, constant, insert, applyAll, bu, condition, while, Forms, stop, _&_, _+&_, count}
 use Rattle.tables.specs.Tables.{field}
 use Rattle.cells.specs.Cells.{Rep}
-use Rattle.linker.specs.Codes.{codeOf}
+use Rattle.lexer.specs.Vocabulary.{opCode}
 use Rattle.linker.specs.Linked.{constantAt}
 
 abbrev pub partsOf : Form → Forms
@@ -31,10 +32,10 @@ kind F i = getD F (i * 4) 0
 
 -- what record i of a form says: [kind, arity, lo, hi], where the arity is the number of its parts
 pub data Raw (F C : List ℕ) (n i : ℕ) : Form → Type 0 where
-  raw-op : {o : Op} → kind F i ≡ 1 → field F i 2 ≡ codeOf o → Raw F C n i (word (op o))
+  raw-op : {o : Op} → kind F i ≡ 1 → field F i 2 ≡ opCode o → Raw F C n i (word (op o))
   raw-select : {k : ℕ} → kind F i ≡ 2 → field F i 2 ≡ k → Raw F C n i (word (select k))
   raw-select-right : {k : ℕ} → kind F i ≡ 3 → field F i 2 ≡ k → Raw F C n i (word (selectRight k))
-  raw-name : {w : List ℕ} → kind F i ≡ 4 → field F i 2 ≡ packed w % 4294967296 → field F i 3 ≡ packed w / 4294967296 → Raw F C n i (name w)
+  raw-name : {w : List ℕ} → IsName w → kind F i ≡ 4 → field F i 2 ≡ packed w % 4294967296 → field F i 3 ≡ packed w / 4294967296 → Raw F C n i (name w)
   raw-chain : {fs : Forms} → kind F i ≡ 5 → Raw F C n i (chain fs)
   raw-construct : {fs : Forms} → kind F i ≡ 6 → Raw F C n i (construct fs)
   raw-insert : {f : Form} → kind F i ≡ 7 → Raw F C n i (insert f)
