@@ -1,0 +1,25 @@
+-- The primitive words by their place in the table.
+use Prim.Native.Nat.{ℕ, zero, suc}
+use mathlib.Core.List.{List, [], _∷_, map}
+use lib.ListN.{getD}
+use Rattle.language.specs.Words.{Op, Op-discrete, CellRule, no-cell, one-cell, n-less-1, n-cells, n-and-1, three-n, m-and-m-times-n, Entry, entry, ops}
+
+-- how many words stand before this one
+abbrev pub placeIn : List Op → Op → ℕ
+placeIn [] o = 0
+placeIn (p ∷ ps) o = elim (Op-discrete p o) [ yes e ↦ 0 | no n ↦ suc (placeIn ps o) ]
+
+unfoldable pub opCode : Op → ℕ
+opCode o = placeIn ops o
+
+abbrev pub ruleCode : CellRule → ℕ
+ruleCode no-cell = 0
+ruleCode one-cell = 1
+ruleCode n-less-1 = 2
+ruleCode n-cells = 3
+ruleCode n-and-1 = 4
+ruleCode three-n = 5
+ruleCode m-and-m-times-n = 6
+
+unfoldable pub ruleAt : ℕ → ℕ
+ruleAt code = getD (map (λ (o : Op). ruleCode (entry o .rule)) ops) code 0
