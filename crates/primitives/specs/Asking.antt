@@ -6,7 +6,7 @@ use Rattle.language.specs.Words.{Op, CellRule, Entry, entry, cellsBy}
 use Rattle.language.specs.Charging.{cellsTaken}
 use Rattle.language.specs.declared.Meter.{Meter}
 use Rattle.cells.specs.Cells.{Room, free}
-use Rattle.primitives.specs.Codes.{opCode, ruleCode}
+use Rattle.lexer.specs.Vocabulary.{opCode, ruleCode}
 use Rattle.primitives.specs.declared.Reserved.{Reserved}
 use Rattle.primitives.specs.declared.Reserved.the-variants.{At, Short}
 

@@ -12,7 +12,7 @@ use Rattle.language.specs.declared.Meter.{Meter}
 use Rattle.language.specs.declared.Val.{Val}
 use Rattle.cells.specs.Cells.{Rep, Room, free}
 use Rattle.sequences.specs.Making.{Built, allButLast}
-use Rattle.primitives.specs.Codes.{opCode}
+use Rattle.lexer.specs.Vocabulary.{opCode}
 use Rattle.primitives.specs.Ends.{Gives, Sinks, Leaf}
 use Rattle.primitives.specs.declared.Ended.{Ended}
 use Rattle.primitives.specs.declared.Ended.the-variants.{Done, Stop}

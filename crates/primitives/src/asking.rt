@@ -1,27 +1,9 @@
 // Asking for a word's cells, by the rule that the table has for it.
 ghost use mathlib.Core.Path.{_≡_};
 ghost use Prim.Native.Nat.{_<_};
-ghost use Rattle.primitives.specs.Codes.{ruleAt};
 ghost use Rattle.primitives.specs.Asking.{CellsAsked, Clipped, Reserving};
 use super::Reserved;
 use language::{Charge, Meter};
-
-fn cell_rule(code: u32) -> u32
-    ensures { λ r. ⌜ r ≡ ruleAt code ⌝ }
-{
-    match code {
-        14 => 1,
-        15 => 2,
-        16 => 3,
-        17 => 3,
-        18 => 3,
-        19 => 4,
-        20 => 5,
-        21 => 5,
-        22 => 6,
-        _ => 0,
-    }
-}
 
 // How many cells a rule asks for, of n places and, for the last rule, of rows of w.
 fn cells_by(rule: u32, n: u64, w: u64) -> u64
@@ -62,7 +44,7 @@ pub fn reserve(c: &[u32], code: u32, n: u32, w: u32, m: Meter) -> Reserved
     if 4096 < p {
         return Reserved::Short(m);
     }
-    let need = clipped(cells_by(cell_rule(code), n as u64, w as u64));
+    let need = clipped(cells_by(lexer::cell_rule(code), n as u64, w as u64));
     match m.charge_cells(need) {
         Charge::Spent(k) => Reserved::Short(k),
         Charge::Granted(k) => Reserved::At(p, k),
