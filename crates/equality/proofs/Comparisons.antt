@@ -258,7 +258,7 @@ pub record Placing (C : List ℕ) (a b : Val) (m : Meter) (p q : Val) (k : Meter
 pub place-start : {C : List ℕ} {a b : Val} {m : Meter} → Placing C a b m a b m
 place-start = record { sinks = record { steps = omega arith; names = refl }; means = λ n xs₀ ys₀ u ra rb. record { xs = xs₀; ys = ys₀; rp = ra; rq = rb; whole = refl } }
 
-looks-as : {C : List ℕ} {a b : Val} {m : Meter} {r r′ : Compared} → r ≡ r′ → Looks C a b m r → Looks C a b m r′
+pub looks-as : {C : List ℕ} {a b : Val} {m : Meter} {r r′ : Compared} → r ≡ r′ → Looks C a b m r → Looks C a b m r′
 looks-as {C} {a} {b} {m} e c = subst (Looks C a b m) e c
 
 pub record Behind (C : List ℕ) (n : ℕ) (p q : Val) (k : Meter) (r : Compared) (xs ys : Objs) : Type 0 where

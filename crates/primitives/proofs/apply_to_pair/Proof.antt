@@ -1,5 +1,6 @@
 use native.Mathlib.Omega.{arith}
 use borrow.Author.Needs.{needs}
+use Rattle.primitives.proofs.Dispatched.{pair-none, pair-both}
 use Rattle.primitives.proofs.apply_to_pair.Statement.{statement}
 use Rattle.primitives.proofs.apply_to_pair.Tie as tie
 use Rattle.primitives.proofs.apply_to_pair.Reads as reads
@@ -29,7 +30,7 @@ same-length c = search needs
 
 -- fn apply_to_pair(code: u32, c: &mut [u32], v: Val, m: Meter) -> Ended
 returns : tie.Need-returns
-returns c = ?
+returns c = search (pair-none, pair-both)
 
 -- fn apply_to_pair(code: u32, c: &mut [u32], v: Val, m: Meter) -> Ended
 same-length-2 : tie.Need-same-length-2
@@ -37,7 +38,7 @@ same-length-2 c = search needs
 
 -- fn apply_to_pair(code: u32, c: &mut [u32], v: Val, m: Meter) -> Ended
 returns-2 : tie.Need-returns-2
-returns-2 c = ?
+returns-2 c = search (pair-none, pair-both)
 
 pub apply-to-pair-spec : {M : Type 1} → statement M
 apply-to-pair-spec =

@@ -1,5 +1,6 @@
 use native.Mathlib.Omega.{arith}
 use borrow.Author.Needs.{needs}
+use Rattle.primitives.proofs.Dispatched.{word-eq, word-lt, word-add, word-sub, word-mul, word-div, word-and, word-or, word-apndl, word-apndr, word-distl, word-distr, two-none}
 use Rattle.primitives.proofs.apply_to_two.Statement.{statement}
 use Rattle.primitives.proofs.apply_to_two.Tie as tie
 use Rattle.primitives.proofs.apply_to_two.Reads as reads
@@ -71,35 +72,35 @@ same-length c = search needs
 
 -- fn apply_to_two(code: u32, c: &mut [u32], a: Val, b: Val, m: Meter) -> Ended
 returns : tie.Need-returns
-returns c = ?
+returns c = search word-eq
 
 -- fn apply_to_two(code: u32, c: &mut [u32], a: Val, b: Val, m: Meter) -> Ended
 returns-2 : tie.Need-returns-2
-returns-2 c = ?
+returns-2 c = search word-lt
 
 -- fn apply_to_two(code: u32, c: &mut [u32], a: Val, b: Val, m: Meter) -> Ended
 returns-3 : tie.Need-returns-3
-returns-3 c = ?
+returns-3 c = search word-add
 
 -- fn apply_to_two(code: u32, c: &mut [u32], a: Val, b: Val, m: Meter) -> Ended
 returns-4 : tie.Need-returns-4
-returns-4 c = ?
+returns-4 c = search word-sub
 
 -- fn apply_to_two(code: u32, c: &mut [u32], a: Val, b: Val, m: Meter) -> Ended
 returns-5 : tie.Need-returns-5
-returns-5 c = ?
+returns-5 c = search word-mul
 
 -- fn apply_to_two(code: u32, c: &mut [u32], a: Val, b: Val, m: Meter) -> Ended
 returns-6 : tie.Need-returns-6
-returns-6 c = ?
+returns-6 c = search word-div
 
 -- fn apply_to_two(code: u32, c: &mut [u32], a: Val, b: Val, m: Meter) -> Ended
 returns-7 : tie.Need-returns-7
-returns-7 c = ?
+returns-7 c = search word-and
 
 -- fn apply_to_two(code: u32, c: &mut [u32], a: Val, b: Val, m: Meter) -> Ended
 returns-8 : tie.Need-returns-8
-returns-8 c = ?
+returns-8 c = search word-or
 
 -- fn apply_to_two(code: u32, c: &mut [u32], a: Val, b: Val, m: Meter) -> Ended
 same-length-2 : tie.Need-same-length-2
@@ -107,7 +108,7 @@ same-length-2 c = search needs
 
 -- fn apply_to_two(code: u32, c: &mut [u32], a: Val, b: Val, m: Meter) -> Ended
 returns-9 : tie.Need-returns-9
-returns-9 c = ?
+returns-9 c = search word-apndl
 
 -- fn apply_to_two(code: u32, c: &mut [u32], a: Val, b: Val, m: Meter) -> Ended
 same-length-3 : tie.Need-same-length-3
@@ -115,7 +116,7 @@ same-length-3 c = search needs
 
 -- fn apply_to_two(code: u32, c: &mut [u32], a: Val, b: Val, m: Meter) -> Ended
 returns-10 : tie.Need-returns-10
-returns-10 c = ?
+returns-10 c = search word-apndr
 
 -- fn apply_to_two(code: u32, c: &mut [u32], a: Val, b: Val, m: Meter) -> Ended
 same-length-4 : tie.Need-same-length-4
@@ -123,7 +124,7 @@ same-length-4 c = search needs
 
 -- fn apply_to_two(code: u32, c: &mut [u32], a: Val, b: Val, m: Meter) -> Ended
 returns-11 : tie.Need-returns-11
-returns-11 c = ?
+returns-11 c = search word-distl
 
 -- fn apply_to_two(code: u32, c: &mut [u32], a: Val, b: Val, m: Meter) -> Ended
 same-length-5 : tie.Need-same-length-5
@@ -131,11 +132,11 @@ same-length-5 c = search needs
 
 -- fn apply_to_two(code: u32, c: &mut [u32], a: Val, b: Val, m: Meter) -> Ended
 returns-12 : tie.Need-returns-12
-returns-12 c = ?
+returns-12 c = search word-distr
 
 -- fn apply_to_two(code: u32, c: &mut [u32], a: Val, b: Val, m: Meter) -> Ended
 returns-13 : tie.Need-returns-13
-returns-13 c = ?
+returns-13 c = search two-none
 
 pub apply-to-two-spec : {M : Type 1} → statement M
 apply-to-two-spec =

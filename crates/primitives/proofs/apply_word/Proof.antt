@@ -1,5 +1,6 @@
 use native.Mathlib.Omega.{arith}
 use borrow.Author.Needs.{needs}
+use Rattle.primitives.proofs.Dispatched.{word-id, word-tl, word-atom, word-null, word-length, word-not, word-tlr, word-reverse, word-rotl, word-rotr, word-trans, coded-pair}
 use Rattle.primitives.proofs.apply_word.Statement.{statement}
 use Rattle.primitives.proofs.apply_word.Tie as tie
 use Rattle.primitives.proofs.apply_word.Reads as reads
@@ -60,7 +61,7 @@ apply-to-pair-requires c κs = search needs
 
 -- pub fn apply_word(code: u32, c: &mut [u32], v: Val, m: Meter) -> Ended
 returns : tie.Need-returns
-returns c = ?
+returns c = search word-id
 
 -- pub fn apply_word(code: u32, c: &mut [u32], v: Val, m: Meter) -> Ended
 same-length : tie.Need-same-length
@@ -68,23 +69,23 @@ same-length c = search needs
 
 -- pub fn apply_word(code: u32, c: &mut [u32], v: Val, m: Meter) -> Ended
 returns-2 : tie.Need-returns-2
-returns-2 c = ?
+returns-2 c = search word-tl
 
 -- pub fn apply_word(code: u32, c: &mut [u32], v: Val, m: Meter) -> Ended
 returns-3 : tie.Need-returns-3
-returns-3 c = ?
+returns-3 c = search word-atom
 
 -- pub fn apply_word(code: u32, c: &mut [u32], v: Val, m: Meter) -> Ended
 returns-4 : tie.Need-returns-4
-returns-4 c = ?
+returns-4 c = search word-null
 
 -- pub fn apply_word(code: u32, c: &mut [u32], v: Val, m: Meter) -> Ended
 returns-5 : tie.Need-returns-5
-returns-5 c = ?
+returns-5 c = search word-length
 
 -- pub fn apply_word(code: u32, c: &mut [u32], v: Val, m: Meter) -> Ended
 returns-6 : tie.Need-returns-6
-returns-6 c = ?
+returns-6 c = search word-not
 
 -- pub fn apply_word(code: u32, c: &mut [u32], v: Val, m: Meter) -> Ended
 same-length-2 : tie.Need-same-length-2
@@ -92,7 +93,7 @@ same-length-2 c = search needs
 
 -- pub fn apply_word(code: u32, c: &mut [u32], v: Val, m: Meter) -> Ended
 returns-7 : tie.Need-returns-7
-returns-7 c = ?
+returns-7 c = search word-tlr
 
 -- pub fn apply_word(code: u32, c: &mut [u32], v: Val, m: Meter) -> Ended
 same-length-3 : tie.Need-same-length-3
@@ -100,7 +101,7 @@ same-length-3 c = search needs
 
 -- pub fn apply_word(code: u32, c: &mut [u32], v: Val, m: Meter) -> Ended
 returns-8 : tie.Need-returns-8
-returns-8 c = ?
+returns-8 c = search word-reverse
 
 -- pub fn apply_word(code: u32, c: &mut [u32], v: Val, m: Meter) -> Ended
 same-length-4 : tie.Need-same-length-4
@@ -108,7 +109,7 @@ same-length-4 c = search needs
 
 -- pub fn apply_word(code: u32, c: &mut [u32], v: Val, m: Meter) -> Ended
 returns-9 : tie.Need-returns-9
-returns-9 c = ?
+returns-9 c = search word-rotl
 
 -- pub fn apply_word(code: u32, c: &mut [u32], v: Val, m: Meter) -> Ended
 same-length-5 : tie.Need-same-length-5
@@ -116,7 +117,7 @@ same-length-5 c = search needs
 
 -- pub fn apply_word(code: u32, c: &mut [u32], v: Val, m: Meter) -> Ended
 returns-10 : tie.Need-returns-10
-returns-10 c = ?
+returns-10 c = search word-rotr
 
 -- pub fn apply_word(code: u32, c: &mut [u32], v: Val, m: Meter) -> Ended
 same-length-6 : tie.Need-same-length-6
@@ -124,7 +125,7 @@ same-length-6 c = search needs
 
 -- pub fn apply_word(code: u32, c: &mut [u32], v: Val, m: Meter) -> Ended
 returns-11 : tie.Need-returns-11
-returns-11 c = ?
+returns-11 c = search word-trans
 
 -- pub fn apply_word(code: u32, c: &mut [u32], v: Val, m: Meter) -> Ended
 same-length-7 : tie.Need-same-length-7
@@ -132,7 +133,7 @@ same-length-7 c = search needs
 
 -- pub fn apply_word(code: u32, c: &mut [u32], v: Val, m: Meter) -> Ended
 returns-12 : tie.Need-returns-12
-returns-12 c = ?
+returns-12 c = search coded-pair
 
 pub apply-word-spec : {M : Type 1} → statement M
 apply-word-spec =

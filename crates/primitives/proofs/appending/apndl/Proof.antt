@@ -1,5 +1,6 @@
 use native.Mathlib.Omega.{arith}
 use borrow.Author.Needs.{needs}
+use Rattle.primitives.proofs.Made.{apndl-atom, apndl-short, apndl-is}
 use Rattle.primitives.proofs.appending.apndl.Statement.{statement}
 use Rattle.primitives.proofs.appending.apndl.Tie as tie
 use Rattle.primitives.proofs.appending.apndl.Reads as reads
@@ -10,7 +11,7 @@ use Rattle.sequences.proofs.put_before.Reads as put-before-reads
 
 -- return Ended::Stop(21, m);
 returns : tie.Need-returns
-returns c = ?
+returns c = search apndl-atom
 
 -- match asking::reserve(c, 14, cells::size(b), 0, m) {
 size-requires : tie.Need-size-requires
@@ -38,7 +39,7 @@ same-length c = search needs
 
 -- pub fn apndl(c: &mut [u32], a: Val, b: Val, m: Meter) -> Ended
 returns-2 : tie.Need-returns-2
-returns-2 c = ?
+returns-2 c = search (apndl-short, apndl-is)
 
 -- pub fn apndl(c: &mut [u32], a: Val, b: Val, m: Meter) -> Ended
 same-length-2 : tie.Need-same-length-2
@@ -46,7 +47,7 @@ same-length-2 c = search needs
 
 -- pub fn apndl(c: &mut [u32], a: Val, b: Val, m: Meter) -> Ended
 returns-3 : tie.Need-returns-3
-returns-3 c = ?
+returns-3 c = search (apndl-short, apndl-is)
 
 pub apndl-spec : {M : Type 1} → statement M
 apndl-spec =

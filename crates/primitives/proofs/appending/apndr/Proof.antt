@@ -1,5 +1,6 @@
 use native.Mathlib.Omega.{arith}
 use borrow.Author.Needs.{needs}
+use Rattle.primitives.proofs.Made.{apndr-atom, apndr-short, apndr-is, low-next}
 use Rattle.primitives.proofs.appending.apndr.Statement.{statement}
 use Rattle.primitives.proofs.appending.apndr.Tie as tie
 use Rattle.primitives.proofs.appending.apndr.Reads as reads
@@ -12,7 +13,7 @@ use Rattle.sequences.proofs.put_before.Reads as put-before-reads
 
 -- return Ended::Stop(21, m);
 returns : tie.Need-returns
-returns c = ?
+returns c = search apndr-atom
 
 -- let n = cells::size(a);
 size-requires : tie.Need-size-requires
@@ -40,7 +41,7 @@ put-before-requires c κs = search needs
 
 -- Ended::Done(sequences::prepended(c, a, n, p + 1, last), k)
 add-prepended : tie.Need-add-prepended
-add-prepended c = ?
+add-prepended c = record { fits = search low-next }
 
 -- Ended::Done(sequences::prepended(c, a, n, p + 1, last), k)
 prepended-requires : tie.Need-prepended-requires
@@ -52,7 +53,7 @@ same-length c = search needs
 
 -- pub fn apndr(c: &mut [u32], a: Val, b: Val, m: Meter) -> Ended
 returns-2 : tie.Need-returns-2
-returns-2 c = ?
+returns-2 c = search (apndr-short, apndr-is)
 
 -- pub fn apndr(c: &mut [u32], a: Val, b: Val, m: Meter) -> Ended
 same-length-2 : tie.Need-same-length-2
@@ -60,7 +61,7 @@ same-length-2 c = search needs
 
 -- pub fn apndr(c: &mut [u32], a: Val, b: Val, m: Meter) -> Ended
 returns-3 : tie.Need-returns-3
-returns-3 c = ?
+returns-3 c = search (apndr-short, apndr-is)
 
 pub apndr-spec : {M : Type 1} → statement M
 apndr-spec =

@@ -1,5 +1,6 @@
 use native.Mathlib.Omega.{arith}
 use borrow.Author.Needs.{needs}
+use Rattle.primitives.proofs.Made.{distl-atom, distl-short, distl-is}
 use Rattle.primitives.proofs.appending.distl.Statement.{statement}
 use Rattle.primitives.proofs.appending.distl.Tie as tie
 use Rattle.primitives.proofs.appending.distl.Reads as reads
@@ -10,7 +11,7 @@ use Rattle.sequences.proofs.shared.Reads as shared-reads
 
 -- return Ended::Stop(21, m);
 returns : tie.Need-returns
-returns c = ?
+returns c = search distl-atom
 
 -- let n = cells::size(b);
 size-requires : tie.Need-size-requires
@@ -38,7 +39,7 @@ same-length c = search needs
 
 -- pub fn distl(c: &mut [u32], a: Val, b: Val, m: Meter) -> Ended
 returns-2 : tie.Need-returns-2
-returns-2 c = ?
+returns-2 c = search (distl-short, distl-is)
 
 -- pub fn distl(c: &mut [u32], a: Val, b: Val, m: Meter) -> Ended
 same-length-2 : tie.Need-same-length-2
@@ -46,7 +47,7 @@ same-length-2 c = search needs
 
 -- pub fn distl(c: &mut [u32], a: Val, b: Val, m: Meter) -> Ended
 returns-3 : tie.Need-returns-3
-returns-3 c = ?
+returns-3 c = search (distl-short, distl-is)
 
 pub distl-spec : {M : Type 1} → statement M
 distl-spec =

@@ -1,5 +1,6 @@
 use native.Mathlib.Omega.{arith}
 use borrow.Author.Needs.{needs}
+use Rattle.primitives.proofs.Made.{distr-atom, distr-short, distr-is}
 use Rattle.primitives.proofs.appending.distr.Statement.{statement}
 use Rattle.primitives.proofs.appending.distr.Tie as tie
 use Rattle.primitives.proofs.appending.distr.Reads as reads
@@ -10,7 +11,7 @@ use Rattle.sequences.proofs.shared.Reads as shared-reads
 
 -- return Ended::Stop(21, m);
 returns : tie.Need-returns
-returns c = ?
+returns c = search distr-atom
 
 -- let n = cells::size(a);
 size-requires : tie.Need-size-requires
@@ -38,7 +39,7 @@ same-length c = search needs
 
 -- pub fn distr(c: &mut [u32], a: Val, b: Val, m: Meter) -> Ended
 returns-2 : tie.Need-returns-2
-returns-2 c = ?
+returns-2 c = search (distr-short, distr-is)
 
 -- pub fn distr(c: &mut [u32], a: Val, b: Val, m: Meter) -> Ended
 same-length-2 : tie.Need-same-length-2
@@ -46,7 +47,7 @@ same-length-2 c = search needs
 
 -- pub fn distr(c: &mut [u32], a: Val, b: Val, m: Meter) -> Ended
 returns-3 : tie.Need-returns-3
-returns-3 c = ?
+returns-3 c = search (distr-short, distr-is)
 
 pub distr-spec : {M : Type 1} → statement M
 distr-spec =

@@ -1,5 +1,7 @@
 use native.Mathlib.Omega.{arith}
 use borrow.Author.Needs.{needs}
+use Rattle.primitives.proofs.Numbered.{first-no, second-no, on-lt, lt-end}
+use Rattle.primitives.proofs.Shaped.{short-of}
 use Rattle.primitives.proofs.numbers.lt.Statement.{statement}
 use Rattle.primitives.proofs.numbers.lt.Tie as tie
 use Rattle.primitives.proofs.numbers.lt.Reads as reads
@@ -14,7 +16,7 @@ is-integer-requires c κs = search needs
 
 -- return Ended::Stop(21, m);
 returns : tie.Need-returns
-returns c = ?
+returns c = search (first-no, on-lt)
 
 -- if !shapes::is_integer(b) {
 is-integer-requires-2 : tie.Need-is-integer-requires-2
@@ -22,7 +24,7 @@ is-integer-requires-2 c κs = search needs
 
 -- return Ended::Stop(21, m);
 returns-2 : tie.Need-returns-2
-returns-2 c = ?
+returns-2 c = search (second-no, on-lt)
 
 -- Ended::Done(shapes::truth(arithmetic::is_less(a, b)), m)
 is-less-requires : tie.Need-is-less-requires
@@ -34,7 +36,7 @@ truth-requires c κs = search needs
 
 -- pub fn lt(a: Val, b: Val, m: Meter) -> Ended
 returns-3 : tie.Need-returns-3
-returns-3 c = ?
+returns-3 c = search (lt-end, short-of)
 
 pub lt-spec : {M : Type 1} → statement M
 lt-spec =

@@ -1,5 +1,7 @@
 use native.Mathlib.Omega.{arith}
 use borrow.Author.Needs.{needs}
+use Rattle.primitives.proofs.Numbered.{first-no, second-no, on-sub, sub-end}
+use Rattle.primitives.proofs.Shaped.{short-of}
 use Rattle.primitives.proofs.numbers.sub.Statement.{statement}
 use Rattle.primitives.proofs.numbers.sub.Tie as tie
 use Rattle.primitives.proofs.numbers.sub.Reads as reads
@@ -14,7 +16,7 @@ is-integer-requires c κs = search needs
 
 -- return Ended::Stop(21, m);
 returns : tie.Need-returns
-returns c = ?
+returns c = search (first-no, on-sub)
 
 -- if !shapes::is_integer(b) {
 is-integer-requires-2 : tie.Need-is-integer-requires-2
@@ -22,11 +24,11 @@ is-integer-requires-2 c κs = search needs
 
 -- return Ended::Stop(21, m);
 returns-2 : tie.Need-returns-2
-returns-2 c = ?
+returns-2 c = search (second-no, on-sub)
 
 -- ranged(arithmetic::subtract(a, b), m)
 subtract-requires : tie.Need-subtract-requires
-subtract-requires c κs = ?
+subtract-requires c κs = (short-of (c .before .before .before .is-integer .ensures) (c .before .before .if1 .left), short-of (c .before .is-integer2 .ensures) (c .if2 .left))
 
 -- ranged(arithmetic::subtract(a, b), m)
 ranged-requires : tie.Need-ranged-requires
@@ -34,7 +36,7 @@ ranged-requires c κs = search needs
 
 -- pub fn sub(a: Val, b: Val, m: Meter) -> Ended
 returns-3 : tie.Need-returns-3
-returns-3 c = ?
+returns-3 c = search (sub-end, short-of)
 
 pub sub-spec : {M : Type 1} → statement M
 sub-spec =

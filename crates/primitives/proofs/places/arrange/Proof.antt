@@ -1,5 +1,6 @@
 use native.Mathlib.Omega.{arith}
 use borrow.Author.Needs.{needs}
+use Rattle.primitives.proofs.Made.{order-atom, order-short, order-is}
 use Rattle.primitives.proofs.places.arrange.Statement.{statement}
 use Rattle.primitives.proofs.places.arrange.Tie as tie
 use Rattle.primitives.proofs.places.arrange.Reads as reads
@@ -10,7 +11,7 @@ use Rattle.primitives.proofs.places.arranged.Reads as arranged-reads
 
 -- return Ended::Stop(21, m);
 returns : tie.Need-returns
-returns c = ?
+returns c = search order-atom
 
 -- let n = cells::size(v);
 size-requires : tie.Need-size-requires
@@ -38,7 +39,7 @@ same-length c = search needs
 
 -- pub fn arrange(code: u32, c: &mut [u32], v: Val, m: Meter) -> Ended
 returns-2 : tie.Need-returns-2
-returns-2 c = ?
+returns-2 c = search (order-short, order-is)
 
 -- pub fn arrange(code: u32, c: &mut [u32], v: Val, m: Meter) -> Ended
 same-length-2 : tie.Need-same-length-2
@@ -46,7 +47,7 @@ same-length-2 c = search needs
 
 -- pub fn arrange(code: u32, c: &mut [u32], v: Val, m: Meter) -> Ended
 returns-3 : tie.Need-returns-3
-returns-3 c = ?
+returns-3 c = search (order-short, order-is)
 
 pub arrange-spec : {M : Type 1} → statement M
 arrange-spec =

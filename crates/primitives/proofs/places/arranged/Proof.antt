@@ -1,5 +1,6 @@
 use native.Mathlib.Omega.{arith}
 use borrow.Author.Needs.{needs}
+use Rattle.primitives.proofs.Made.{arranged-tlr, arranged-reverse, arranged-rotl, arranged-rotr}
 use Rattle.primitives.proofs.places.arranged.Statement.{statement}
 use Rattle.primitives.proofs.places.arranged.Tie as tie
 use Rattle.primitives.proofs.places.arranged.Reads as reads
@@ -31,7 +32,7 @@ same-length c = search needs
 
 -- fn arranged(code: u32, c: &mut [u32], v: Val, n: u32, p: u32) -> Val
 returns : tie.Need-returns
-returns c = ?
+returns c = search arranged-tlr
 
 -- fn arranged(code: u32, c: &mut [u32], v: Val, n: u32, p: u32) -> Val
 same-length-2 : tie.Need-same-length-2
@@ -39,7 +40,7 @@ same-length-2 c = search needs
 
 -- fn arranged(code: u32, c: &mut [u32], v: Val, n: u32, p: u32) -> Val
 returns-2 : tie.Need-returns-2
-returns-2 c = ?
+returns-2 c = search arranged-reverse
 
 -- fn arranged(code: u32, c: &mut [u32], v: Val, n: u32, p: u32) -> Val
 same-length-3 : tie.Need-same-length-3
@@ -47,7 +48,7 @@ same-length-3 c = search needs
 
 -- fn arranged(code: u32, c: &mut [u32], v: Val, n: u32, p: u32) -> Val
 returns-3 : tie.Need-returns-3
-returns-3 c = ?
+returns-3 c = search arranged-rotl
 
 -- fn arranged(code: u32, c: &mut [u32], v: Val, n: u32, p: u32) -> Val
 same-length-4 : tie.Need-same-length-4
@@ -55,7 +56,7 @@ same-length-4 c = search needs
 
 -- fn arranged(code: u32, c: &mut [u32], v: Val, n: u32, p: u32) -> Val
 returns-4 : tie.Need-returns-4
-returns-4 c = ?
+returns-4 c = search arranged-rotr
 
 pub arranged-spec : {M : Type 1} → statement M
 arranged-spec =

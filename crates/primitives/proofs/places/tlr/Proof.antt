@@ -1,5 +1,6 @@
 use native.Mathlib.Omega.{arith}
 use borrow.Author.Needs.{needs}
+use Rattle.primitives.proofs.Made.{tlr-none, tlr-is}
 use Rattle.primitives.proofs.places.tlr.Statement.{statement}
 use Rattle.primitives.proofs.places.tlr.Tie as tie
 use Rattle.primitives.proofs.places.tlr.Reads as reads
@@ -13,7 +14,7 @@ size-requires c κs = search needs
 
 -- return Ended::Stop(21, m);
 returns : tie.Need-returns
-returns c = ?
+returns c = search tlr-none
 
 -- arrange(15, c, v, m)
 arrange-requires : tie.Need-arrange-requires
@@ -25,7 +26,7 @@ same-length c = search needs
 
 -- pub fn tlr(c: &mut [u32], v: Val, m: Meter) -> Ended
 returns-2 : tie.Need-returns-2
-returns-2 c = ?
+returns-2 c = search tlr-is
 
 pub tlr-spec : {M : Type 1} → statement M
 tlr-spec = tie.close (tie.spec size-requires returns arrange-requires same-length returns-2)

@@ -1,5 +1,6 @@
 use native.Mathlib.Omega.{arith}
 use borrow.Author.Needs.{needs}
+use Rattle.primitives.proofs.Shaped.{two-atom, two-size, two-is}
 use Rattle.primitives.proofs.shapes.two.Statement.{statement}
 use Rattle.primitives.proofs.shapes.two.Tie as tie
 use Rattle.primitives.proofs.shapes.two.Reads as reads
@@ -10,7 +11,7 @@ use Rattle.cells.proofs.tail.Reads as tail-reads
 
 -- return Two::Other;
 returns : tie.Need-returns
-returns c = ?
+returns c = search two-atom
 
 -- if cells::size(v) != 2 {
 size-requires : tie.Need-size-requires
@@ -18,7 +19,7 @@ size-requires c κs = search needs
 
 -- return Two::Other;
 returns-2 : tie.Need-returns-2
-returns-2 c = ?
+returns-2 c = search two-size
 
 -- let rest = cells::tail(c, v);
 tail-requires : tie.Need-tail-requires
@@ -34,7 +35,7 @@ head-requires-2 c κs = search needs
 
 -- pub fn two(c: &[u32], v: Val) -> Two
 returns-3 : tie.Need-returns-3
-returns-3 c = ?
+returns-3 c = search two-is
 
 pub two-spec : {M : Type 1} → statement M
 two-spec =

@@ -1,5 +1,6 @@
 use native.Mathlib.Omega.{arith}
 use borrow.Author.Needs.{needs}
+use Rattle.primitives.proofs.Transposed.{trans-atom, trans-none, trans-uneven, trans-short, trans-is}
 use Rattle.primitives.proofs.transposing.trans.Statement.{statement}
 use Rattle.primitives.proofs.transposing.trans.Tie as tie
 use Rattle.primitives.proofs.transposing.trans.Reads as reads
@@ -12,7 +13,7 @@ use Rattle.sequences.proofs.columns.Reads as columns-reads
 
 -- return Ended::Stop(21, m);
 returns : tie.Need-returns
-returns c = ?
+returns c = search trans-atom
 
 -- let n = cells::size(v);
 size-requires : tie.Need-size-requires
@@ -20,7 +21,7 @@ size-requires c κs = search needs
 
 -- return Ended::Stop(21, m);
 returns-2 : tie.Need-returns-2
-returns-2 c = ?
+returns-2 c = search trans-none
 
 -- let w = cells::size(cells::head(c, v));
 head-requires : tie.Need-head-requires
@@ -40,7 +41,7 @@ same-length c = search needs
 
 -- return Ended::Stop(21, m);
 returns-3 : tie.Need-returns-3
-returns-3 c = ?
+returns-3 c = search trans-uneven
 
 -- match asking::reserve(c, 22, n, w, m) {
 reserve-requires : tie.Need-reserve-requires
@@ -64,7 +65,7 @@ same-length-2 c = search needs
 
 -- pub fn trans(c: &mut [u32], v: Val, m: Meter) -> Ended
 returns-4 : tie.Need-returns-4
-returns-4 c = ?
+returns-4 c = search (trans-short, trans-is)
 
 -- pub fn trans(c: &mut [u32], v: Val, m: Meter) -> Ended
 same-length-3 : tie.Need-same-length-3
@@ -72,7 +73,7 @@ same-length-3 c = search needs
 
 -- pub fn trans(c: &mut [u32], v: Val, m: Meter) -> Ended
 returns-5 : tie.Need-returns-5
-returns-5 c = ?
+returns-5 c = search (trans-short, trans-is)
 
 pub trans-spec : {M : Type 1} → statement M
 trans-spec =

@@ -1,5 +1,6 @@
 use native.Mathlib.Omega.{arith}
 use borrow.Author.Needs.{needs}
+use Rattle.primitives.proofs.Judged.{first-neither, second-neither, on-and, and-first-f, and-second-is}
 use Rattle.primitives.proofs.truths.and.Statement.{statement}
 use Rattle.primitives.proofs.truths.and.Tie as tie
 use Rattle.primitives.proofs.truths.and.Reads as reads
@@ -17,11 +18,11 @@ truth-of-requires-2 c κs = search needs
 
 -- return Ended::Stop(21, m);
 returns : tie.Need-returns
-returns c = ?
+returns c = search (first-neither, on-and)
 
 -- return Ended::Stop(21, m);
 returns-2 : tie.Need-returns-2
-returns-2 c = ?
+returns-2 c = search (second-neither, on-and)
 
 -- return Ended::Done(shapes::truth(false), m);
 truth-requires : tie.Need-truth-requires
@@ -29,7 +30,7 @@ truth-requires c κs = search needs
 
 -- return Ended::Done(shapes::truth(false), m);
 returns-3 : tie.Need-returns-3
-returns-3 c = ?
+returns-3 c = search and-first-f
 
 -- Ended::Done(shapes::truth(y == 1), m)
 truth-requires-2 : tie.Need-truth-requires-2
@@ -37,7 +38,7 @@ truth-requires-2 c κs = search needs
 
 -- pub fn and(a: Val, b: Val, m: Meter) -> Ended
 returns-4 : tie.Need-returns-4
-returns-4 c = ?
+returns-4 c = search and-second-is
 
 pub and-spec : {M : Type 1} → statement M
 and-spec =

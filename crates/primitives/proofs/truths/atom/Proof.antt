@@ -1,5 +1,6 @@
 use native.Mathlib.Omega.{arith}
 use borrow.Author.Needs.{needs}
+use Rattle.primitives.proofs.Judged.{atom-is}
 use Rattle.primitives.proofs.truths.atom.Statement.{statement}
 use Rattle.primitives.proofs.truths.atom.Tie as tie
 use Rattle.primitives.proofs.truths.atom.Reads as reads
@@ -17,7 +18,7 @@ truth-requires c κs = search needs
 
 -- pub fn atom(v: Val, m: Meter) -> Ended
 returns : tie.Need-returns
-returns c = ?
+returns c = search atom-is
 
 pub atom-spec : {M : Type 1} → statement M
 atom-spec = tie.close (tie.spec is-atom-requires truth-requires returns)

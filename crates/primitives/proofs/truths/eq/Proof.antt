@@ -1,5 +1,6 @@
 use native.Mathlib.Omega.{arith}
 use borrow.Author.Needs.{needs}
+use Rattle.primitives.proofs.Judged.{eq-equal, eq-differ, eq-out}
 use Rattle.primitives.proofs.truths.eq.Statement.{statement}
 use Rattle.primitives.proofs.truths.eq.Tie as tie
 use Rattle.primitives.proofs.truths.eq.Reads as reads
@@ -33,15 +34,15 @@ enum-known-k-3 c = search needs
 
 -- pub fn eq(c: &[u32], a: Val, b: Val, m: Meter) -> Ended
 returns : tie.Need-returns
-returns c = ?
+returns c = search (eq-equal, eq-differ, eq-out)
 
 -- pub fn eq(c: &[u32], a: Val, b: Val, m: Meter) -> Ended
 returns-2 : tie.Need-returns-2
-returns-2 c = ?
+returns-2 c = search (eq-equal, eq-differ, eq-out)
 
 -- pub fn eq(c: &[u32], a: Val, b: Val, m: Meter) -> Ended
 returns-3 : tie.Need-returns-3
-returns-3 c = ?
+returns-3 c = search (eq-equal, eq-differ, eq-out)
 
 pub eq-spec : {M : Type 1} → statement M
 eq-spec =

@@ -1,5 +1,6 @@
 use native.Mathlib.Omega.{arith}
 use borrow.Author.Needs.{needs}
+use Rattle.primitives.proofs.Judged.{null-is}
 use Rattle.primitives.proofs.truths.null.Statement.{statement}
 use Rattle.primitives.proofs.truths.null.Tie as tie
 use Rattle.primitives.proofs.truths.null.Reads as reads
@@ -17,7 +18,7 @@ truth-requires c κs = search needs
 
 -- pub fn null(v: Val, m: Meter) -> Ended
 returns : tie.Need-returns
-returns c = ?
+returns c = search null-is
 
 pub null-spec : {M : Type 1} → statement M
 null-spec = tie.close (tie.spec is-null-requires truth-requires returns)

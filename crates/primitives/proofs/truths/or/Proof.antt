@@ -1,5 +1,6 @@
 use native.Mathlib.Omega.{arith}
 use borrow.Author.Needs.{needs}
+use Rattle.primitives.proofs.Judged.{first-neither, second-neither, on-or, or-first-t, or-second-is}
 use Rattle.primitives.proofs.truths.or.Statement.{statement}
 use Rattle.primitives.proofs.truths.or.Tie as tie
 use Rattle.primitives.proofs.truths.or.Reads as reads
@@ -17,11 +18,11 @@ truth-of-requires-2 c κs = search needs
 
 -- return Ended::Stop(21, m);
 returns : tie.Need-returns
-returns c = ?
+returns c = search (first-neither, on-or)
 
 -- return Ended::Stop(21, m);
 returns-2 : tie.Need-returns-2
-returns-2 c = ?
+returns-2 c = search (second-neither, on-or)
 
 -- return Ended::Done(shapes::truth(true), m);
 truth-requires : tie.Need-truth-requires
@@ -29,7 +30,7 @@ truth-requires c κs = search needs
 
 -- return Ended::Done(shapes::truth(true), m);
 returns-3 : tie.Need-returns-3
-returns-3 c = ?
+returns-3 c = search or-first-t
 
 -- Ended::Done(shapes::truth(y == 1), m)
 truth-requires-2 : tie.Need-truth-requires-2
@@ -37,7 +38,7 @@ truth-requires-2 c κs = search needs
 
 -- pub fn or(a: Val, b: Val, m: Meter) -> Ended
 returns-4 : tie.Need-returns-4
-returns-4 c = ?
+returns-4 c = search or-second-is
 
 pub or-spec : {M : Type 1} → statement M
 or-spec =
