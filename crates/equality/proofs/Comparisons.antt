@@ -98,11 +98,11 @@ and-false : (a b : Bool) → a ≡ false → (a && b) ≡ false
 and-false true b e = absurd (let z : _≡_ {A = ℕ} 0 1 = cc in omega arith)
 and-false false b e = refl
 
-same-self : (s : List ℕ) → sameBytes s s ≡ true
+pub same-self : (s : List ℕ) → sameBytes s s ≡ true
 same-self [] = refl
 same-self (x ∷ s) = rw (eq-eqb x x refl, same-self s)
 
-same-bytes : (v w : List ℕ) → sameBytes v w ≡ true → v ≡ w
+pub same-bytes : (v w : List ℕ) → sameBytes v w ≡ true → v ≡ w
 same-bytes [] [] e = refl
 same-bytes [] (y ∷ w) e = let z : _≡_ {A = ℕ} 0 1 = cc in absurd (omega arith)
 same-bytes (x ∷ v) [] e = let z : _≡_ {A = ℕ} 0 1 = cc in absurd (omega arith)
@@ -112,14 +112,14 @@ same-bytes (x ∷ v) (y ∷ w) e = go (eqb x y) refl (λ f. same-bytes v w f)
     go true f k = ap₂ _∷_ (eqb-true x y f) (k (rw f at e))
     go false f k = let u : false ≡ true = rw f at e in let z : _≡_ {A = ℕ} 0 1 = cc in absurd (omega arith)
 
-other-bytes : (v w : List ℕ) → (v ≡ w → ⊥) → sameBytes v w ≡ false
+pub other-bytes : (v w : List ℕ) → (v ≡ w → ⊥) → sameBytes v w ≡ false
 other-bytes v w h = go (sameBytes v w) refl
   where
     go : (t : Bool) → sameBytes v w ≡ t → t ≡ false
     go true e = absurd (h (same-bytes v w e))
     go false e = refl
 
-packed-as : {v w : List ℕ} → v ≡ w → packed v ≡ packed w
+pub packed-as : {v w : List ℕ} → v ≡ w → packed v ≡ packed w
 packed-as e = ap packed e
 
 atoms-equal : {C : List ℕ} {n : ℕ} {a b : Val} {x y : Obj} → a .tag ≡ b .tag → (a .tag ≡ 3 → ⊥) → a .word ≡ b .word → Rep C n a x → Rep C n b y → look x y ≡ record { same = true; pairs = 1 }
@@ -258,7 +258,7 @@ pub record Placing (C : List ℕ) (a b : Val) (m : Meter) (p q : Val) (k : Meter
 pub place-start : {C : List ℕ} {a b : Val} {m : Meter} → Placing C a b m a b m
 place-start = record { sinks = record { steps = omega arith; names = refl }; means = λ n xs₀ ys₀ u ra rb. record { xs = xs₀; ys = ys₀; rp = ra; rq = rb; whole = refl } }
 
-looks-as : {C : List ℕ} {a b : Val} {m : Meter} {r r′ : Compared} → r ≡ r′ → Looks C a b m r → Looks C a b m r′
+pub looks-as : {C : List ℕ} {a b : Val} {m : Meter} {r r′ : Compared} → r ≡ r′ → Looks C a b m r → Looks C a b m r′
 looks-as {C} {a} {b} {m} e c = subst (Looks C a b m) e c
 
 pub record Behind (C : List ℕ) (n : ℕ) (p q : Val) (k : Meter) (r : Compared) (xs ys : Objs) : Type 0 where

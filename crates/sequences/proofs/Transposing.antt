@@ -17,11 +17,11 @@ use Rattle.sequences.specs.Making.{Space, Stands, Before, takeObjs, isRo
 use Rattle.sequences.proofs.Parts.{append-nil}
 use Rattle.sequences.proofs.Building.{Building, build-start, build-step, build-end, stands-as, nil-rep}
 
-and-first : (a b : Bool) → (a && b) ≡ true → a ≡ true
+pub and-first : (a b : Bool) → (a && b) ≡ true → a ≡ true
 and-first true b e = refl
 and-first false b e = e
 
-and-second : (a b : Bool) → (a && b) ≡ true → b ≡ true
+pub and-second : (a b : Bool) → (a && b) ≡ true → b ≡ true
 and-second true b e = e
 and-second false b e = absurd (let z : _≡_ {A = ℕ} 0 1 = cc in omega arith)
 
@@ -150,7 +150,7 @@ pub column-end : {C₀ C : List ℕ} {v s : Val} {j n p left free : ℕ} → lef
 column-end {j = j} {n = n} h g = record { means = λ w rs e a l sp rv. stands-as (append-nil (columnAt j rs)) (build-end n (omega arith) (omega (arith, g .sum)) (g .means w rs e a l sp rv)) }
 
 -- ---- all columns
-length-columns : (j w : ℕ) (rs : Objs) → lengthOf (columnsAt j w rs) ≡ w
+pub length-columns : (j w : ℕ) (rs : Objs) → lengthOf (columnsAt j w rs) ≡ w
 unfolding columnsAt
 length-columns j zero rs = refl
 length-columns j (suc w) rs = ap suc (length-columns (suc j) w rs)

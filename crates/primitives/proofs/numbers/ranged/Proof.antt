@@ -1,0 +1,18 @@
+use borrow.Author.Needs.{needs}
+use native.Mathlib.Omega.{arith}
+use Rattle.primitives.proofs.Numbered.{range-above, range-below}
+use Rattle.primitives.proofs.numbers.ranged.Statement.{statement}
+use Rattle.primitives.proofs.numbers.ranged.Tie as tie
+use Rattle.primitives.proofs.numbers.ranged.Reads as reads
+use Rattle.primitives.proofs.numbers.ranged.Lts as lts
+
+-- return Ended::Stop(21, m);
+returns : tie.Need-returns
+returns c = search range-above
+
+-- fn ranged(z: Val, m: Meter) -> Ended
+returns-2 : tie.Need-returns-2
+returns-2 c = search range-below
+
+pub ranged-spec : {M : Type 1} → statement M
+ranged-spec = tie.close (tie.spec returns returns-2)

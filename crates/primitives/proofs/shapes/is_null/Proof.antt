@@ -1,0 +1,18 @@
+use borrow.Author.Needs.{needs}
+use native.Mathlib.Omega.{arith}
+use Rattle.primitives.proofs.Shaped.{null-no, null-seq}
+use Rattle.primitives.proofs.shapes.is_null.Statement.{statement}
+use Rattle.primitives.proofs.shapes.is_null.Tie as tie
+use Rattle.primitives.proofs.shapes.is_null.Reads as reads
+use Rattle.primitives.proofs.shapes.is_null.Lts as lts
+
+-- return false;
+returns : tie.Need-returns
+returns c = search null-no
+
+-- pub fn is_null(v: Val) -> bool
+returns-2 : tie.Need-returns-2
+returns-2 c = search null-seq
+
+pub is-null-spec : {M : Type 1} → statement M
+is-null-spec = tie.close (tie.spec returns returns-2)
