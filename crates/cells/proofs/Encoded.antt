@@ -19,6 +19,7 @@ use Rattle.cells.proofs.Reps.{val-same}
 -- ---- lengths
 mutual
   unfolding cellsFrom placesFrom
+
   pub length-cells : (x : Obj) (c : ℕ) → length (cellsFrom c x) ≡ cellsOf x * 4
   length-cells (int z) c = refl
   length-cells (symbol w) c = refl
@@ -27,10 +28,10 @@ mutual
   pub length-places : (xs : Objs) (c : ℕ) → length (placesFrom c xs) ≡ cellsOfAll xs * 4
   length-places nil c = refl
   length-places (x :: xs) c =
-    let a = length-append (cellsFrom (c + 1) x) (placesFrom (c + 1 + cellsOf x) xs) in
-    let b = length-cells x (c + 1) in
-    let d = length-places xs (c + 1 + cellsOf x) in
-    omega arith
+      let a = length-append (cellsFrom (c + 1) x) (placesFrom (c + 1 + cellsOf x) xs) in
+      let b = length-cells x (c + 1) in
+      let d = length-places xs (c + 1 + cellsOf x) in
+      omega arith
 
 -- ---- reading from a table that goes on with l from index i
 at-front : (t : List ℕ) (i k : ℕ) (l : List ℕ) → drop i t ≡ l → getD t (i + k) 0 ≡ getD l k 0
@@ -54,6 +55,7 @@ module _ (t : List ℕ) (c : ℕ) (v : Val) (next : ℕ) (l : List ℕ) (d : dro
 -- ---- the object that the cells hold
 mutual
   unfolding cellsFrom placesFrom
+
   pub cells-rep : (x : Obj) (c n : ℕ) (t rest : List ℕ) → IsObj x → c + cellsOf x ≤ n → drop (c * 4) t ≡ cellsFrom c x ++ rest → Rep t n (valOf c x) x
   cells-rep (int (pos k)) c n t rest i h d = rep-pos {k = k} refl refl (omega arith)
   cells-rep (int (negsuc k)) c n t rest i h d = rep-neg {k = k} refl refl (omega arith)
@@ -63,19 +65,19 @@ mutual
   pub places-rep : (xs : Objs) (c n : ℕ) (t rest : List ℕ) → AreObjs xs → c + cellsOfAll xs ≤ n → drop (c * 4) t ≡ placesFrom c xs ++ rest → Rep t n (valOf c (seq xs)) (seq xs)
   places-rep nil c n t rest i h d = rep-nil refl refl
   places-rep (x :: xs) c n t rest i h d =
-    let e = c + 1 + cellsOf x in
-    let v = valOf (c + 1) x in
-    let k = linkOf e xs in
-    let d₀ : drop (c * 4) t ≡ cell v k ++ (cellsFrom (c + 1) x ++ (placesFrom e xs ++ rest)) = rw (← (append-assoc (cellsFrom (c + 1) x) (placesFrom e xs) rest)) d in
-    let s : c * 4 + 4 ≡ (c + 1) * 4 = omega arith in
-    let d₁ : drop ((c + 1) * 4) t ≡ cellsFrom (c + 1) x ++ (placesFrom e xs ++ rest) = rw (← s) (behind t (c * 4) (cell v k) (cellsFrom (c + 1) x ++ (placesFrom e xs ++ rest)) d₀) in
-    let j : (c + 1) * 4 + length (cellsFrom (c + 1) x) ≡ e * 4 = omega (arith, length-cells x (c + 1)) in
-    let d₂ : drop (e * 4) t ≡ placesFrom e xs ++ rest = rw (← j) (behind t ((c + 1) * 4) (cellsFrom (c + 1) x) (placesFrom e xs ++ rest) d₁) in
-    let a = cells-rep x (c + 1) n t (placesFrom e xs ++ rest) (i .0) (omega arith) d₁ in
-    let b = places-rep xs e n t rest (i .1) (omega arith) d₂ in
-    rep-more {v = valOf c (seq (x :: xs))} {p = c} {x = x} {xs = xs} refl (omega arith) (omega arith)
-    (rw (front-val t c v k (cellsFrom (c + 1) x ++ (placesFrom e xs ++ rest)) d₀) a)
-    (rw (front-next t c v k (cellsFrom (c + 1) x ++ (placesFrom e xs ++ rest)) d₀) b)
+      let e = c + 1 + cellsOf x in
+      let v = valOf (c + 1) x in
+      let k = linkOf e xs in
+      let d₀ : drop (c * 4) t ≡ cell v k ++ (cellsFrom (c + 1) x ++ (placesFrom e xs ++ rest)) = rw (← (append-assoc (cellsFrom (c + 1) x) (placesFrom e xs) rest)) d in
+      let s : c * 4 + 4 ≡ (c + 1) * 4 = omega arith in
+      let d₁ : drop ((c + 1) * 4) t ≡ cellsFrom (c + 1) x ++ (placesFrom e xs ++ rest) = rw (← s) (behind t (c * 4) (cell v k) (cellsFrom (c + 1) x ++ (placesFrom e xs ++ rest)) d₀) in
+      let j : (c + 1) * 4 + length (cellsFrom (c + 1) x) ≡ e * 4 = omega (arith, length-cells x (c + 1)) in
+      let d₂ : drop (e * 4) t ≡ placesFrom e xs ++ rest = rw (← j) (behind t ((c + 1) * 4) (cellsFrom (c + 1) x) (placesFrom e xs ++ rest) d₁) in
+      let a = cells-rep x (c + 1) n t (placesFrom e xs ++ rest) (i .0) (omega arith) d₁ in
+      let b = places-rep xs e n t rest (i .1) (omega arith) d₂ in
+      rep-more {v = valOf c (seq (x :: xs))} {p = c} {x = x} {xs = xs} refl (omega arith) (omega arith)
+      (rw (front-val t c v k (cellsFrom (c + 1) x ++ (placesFrom e xs ++ rest)) d₀) a)
+      (rw (front-next t c v k (cellsFrom (c + 1) x ++ (placesFrom e xs ++ rest)) d₀) b)
 
 -- so the table in which an object's cells were put has the object
 module _ (x : Obj) (c : ℕ) (t : List ℕ) (room : (c + cellsOf x) * 4 ≤ length t) where

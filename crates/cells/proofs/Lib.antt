@@ -5,3 +5,4 @@ pub mod Inversions
 pub mod Encoded
 pub mod Lengths
 pub mod Compared
+pub mod Ring
