@@ -13,3 +13,5 @@ pub mod Uses
 pub mod Accepted
 pub mod Answers
 pub mod Fprun
+pub mod Charging
+pub mod Packing

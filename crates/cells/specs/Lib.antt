@@ -1,0 +1,3 @@
+pub mod Cells
+pub mod Encoding
+pub mod Parts
