@@ -11,6 +11,7 @@ use Rattle.language.specs.Reading.{Got, got, no, readObject, readProgram
 use Rattle.language.specs.Writing.{writeObj, writeProgram, Scan, on, short, deep, scan}
 use Rattle.language.specs.Meanings.{one}
 use Rattle.language.specs.Evaluation.{Spent, noStep, noName, noCell, RunEnd, done, fell, ranOut, tooFew, run}
+use Rattle.language.specs.Laws.{Law}
 use Rattle.language.specs.Uses.{Simplified, simplify, applyLaw, lawNumbered}
 use Rattle.language.specs.declared.Meter.{Meter}
 use Rattle.language.specs.declared.Answer.{Answer}
@@ -58,13 +59,13 @@ abbrev pub roomIn : Lent → ℕ
 roomIn lent = min (length (lent .output)) 16384
 
 -- The object to be written: 20, 25 or 26.
+abbrev pub scanned : Lent → (steps cells : ℕ) → Obj → Scan → Outcome
+scanned lent s c x (on opened room) = written lent s c (writeObj x)
+scanned lent s c x short = unwritten lent (counting 25 s c 0)
+scanned lent s c x deep = unwritten lent (counting 26 s c 0)
+
 abbrev pub writing : Lent → (steps cells : ℕ) → Obj → Outcome
-writing lent s c x =
-    elim (scan (writeObj x) 0 (roomIn lent)) [
-      | on opened room ↦ written lent s c (writeObj x)
-      | short ↦ unwritten lent (counting 25 s c 0)
-      | deep ↦ unwritten lent (counting 26 s c 0)
-    ]
+writing lent s c x = scanned lent s c x (scan (writeObj x) 0 (roomIn lent))
 
 abbrev pub spentNumber : Spent → ℕ
 spentNumber noStep = 22
@@ -107,16 +108,16 @@ withProgram program lent k =
     follows)
 
 -- A law call: 15, 14, 25. A place that no form has gives 14.
+abbrev pub used : Lent → Option Prog → Outcome
+used lent none = unwritten lent (bare 14)
+used lent (some Q) = rewritten lent 1 Q
+
+abbrev pub usedLaw : Lent → (place : ℕ) → Prog → Option Law → Outcome
+usedLaw lent i P none = unwritten lent (bare 15)
+usedLaw lent i P (some l) = used lent (applyLaw l i P)
+
 unfoldable pub lawCall : (program : List ℕ) → (law place : ℕ) → Lent → Outcome
-lawCall program law place lent =
-    withProgram program lent (λ P.
-    elim (lawNumbered law) [
-      | none ↦ unwritten lent (bare 15)
-      | some l ↦ elim (applyLaw l place P) [
-        | none ↦ unwritten lent (bare 14)
-        | some Q ↦ rewritten lent 1 Q
-      ]
-    ])
+lawCall program law place lent = withProgram program lent (λ P. usedLaw lent place P (lawNumbered law))
 
 -- The simplifier leaves out 15 and 14.
 unfoldable pub simplifyCall : (program : List ℕ) → Lent → Outcome

@@ -1,13 +1,13 @@
 -- What a law's shapes say where they give something: the form had that shape.
 use Prim.Native.Nat.{ℕ}
-use mathlib.Core.Path.{_≡_, refl, ap, _∙_}
+use mathlib.Core.Path.{_≡_, refl, sym, subst, ap, _∙_}
 use mathlib.Core.Bool.{Bool, true, false}
 use mathlib.Core.Option.{Option, some, none}
 use native.Mathlib.Omega.{arith}
 use Rattle.language.specs.Objects.{Obj, seq, Objs, lengthOf}
-use Rattle.language.specs.Forms.{Form, word, name, chain, construct, constant, insert, applyAll, bu, condition, while, Forms, stop, _&_, Word, select, selectRight, op, sameForm}
+use Rattle.language.specs.Forms.{Form, word, name, chain, construct, constant, insert, applyAll, bu, condition, while, Forms, stop, _&_, Word, select, selectRight, op, _+&_, sameForm}
 use Rattle.language.specs.Meanings.{Edition, meaning, pick}
-use Rattle.language.specs.Laws.{onChain, onConstruct, onConstant, onCondition, onSelector, onTwo, onTwoOrMore, onSome, when, whenSame, onSplit, onEndingIn}
+use Rattle.language.specs.Laws.{onChain, onConstruct, onConstant, onCondition, onSelector, onTwo, onTwoOrMore, onSome, when, whenSame, onSplit, onEndingIn, endingIn, put}
 
 pub some-inj : {A : Type 0} {a b : A} → some a ≡ some b → a ≡ b
 some-inj h = cc
@@ -167,3 +167,33 @@ ends-in h c k z u =
     let S = split c (λ f last. whenSame last h (k f)) z u in
     let W = when-same (S .h) h (k (S .f)) z (S .gives) in
     record { f = S .f; is = S .is ∙ ap (λ (b : Form). chain (S .f & b & stop)) (W .0); gives = W .1 }
+
+-- `f1.h` to `fn.h`, and f1 to fn
+pub data Ending (h : Form) : Forms → Forms → Type 0 where
+  none-more : Ending h stop stop
+  one-more : (f : Form) {cs fs : Forms} → Ending h cs fs → Ending h (chain (f & h & stop) & cs) (f & fs)
+
+pub ending : (h : Form) (cs fs : Forms) → endingIn h cs ≡ some fs → Ending h cs fs
+ending h stop fs u = subst (Ending h stop) (some-inj u) none-more
+ending h (c & cs) fs u =
+    let E = ends-in h c (λ f. onSome (endingIn h cs) (λ fs. some (f & fs))) fs u in
+    let R = something (endingIn h cs) (λ fs. some (E .f & fs)) fs (E .gives) in
+    subst (λ (b : Form). Ending h (b & cs) fs) (sym (E .is))
+    (subst (Ending h (chain (E .f & h & stop) & cs)) (some-inj (R .gives)) (one-more (E .f) (ending h cs (R .of) (R .is))))
+
+-- A form put among a chain's parts is one part, or a chain whose parts are joined in.
+pub data PutIn : Form → Forms → Forms → Type 0 where
+  one-part : (g : Form) (fs : Forms) → PutIn g fs (g & fs)
+  its-parts : (gs fs : Forms) → PutIn (chain gs) fs (gs +& fs)
+
+pub put-in : (g : Form) (fs : Forms) → PutIn g fs (put g fs)
+put-in (word w) fs = one-part _ fs
+put-in (name w) fs = one-part _ fs
+put-in (chain gs) fs = its-parts gs fs
+put-in (construct gs) fs = one-part _ fs
+put-in (constant x) fs = one-part _ fs
+put-in (insert f) fs = one-part _ fs
+put-in (applyAll f) fs = one-part _ fs
+put-in (bu f x) fs = one-part _ fs
+put-in (condition p f g) fs = one-part _ fs
+put-in (while p f) fs = one-part _ fs

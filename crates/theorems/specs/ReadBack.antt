@@ -6,7 +6,7 @@ use mathlib.Core.Option.{some}
 use lib.ListN.{length}
 use Rattle.language.specs.Objects.{Obj}
 use Rattle.language.specs.Forms.{Prog}
-use Rattle.language.specs.Reading.{got, readObject, readProgram, markLimit}
+use Rattle.language.specs.Reading.{got, no, readObj, readObject, readDefinitions, readProgram, markLimit, calls}
 use Rattle.language.specs.Writing.{writeObj, writeProgram, marksOfObj}
 use Rattle.language.specs.Uses.{applyLaw}
 use Rattle.language.specs.Laws.{Law}
@@ -54,3 +54,21 @@ AcceptedReadBack = (P : Prog) → Accepted P → readProgram (writeProgram P) �
 
 abbrev pub UsesReadBack : Type 0
 UsesReadBack = (l : Law) (i : ℕ) (P Q : Prog) → Accepted P → applyLaw l i P ≡ some Q → readProgram (writeProgram Q) ≡ got Q (length (writeProgram Q))
+
+-- A refusal has one of 01's numbers, and its place is in the text or its end.
+pub record Refusal (s : List ℕ) (highest number place : ℕ) : Type 0 where
+  pub low : 6 ≤ number
+  pub high : number ≤ highest
+  pub within : place ≤ length s
+
+abbrev pub ObjectsRefused : Type 0
+ObjectsRefused = (s : List ℕ) (n p : ℕ) → readObject s ≡ no n p → Refusal s 9 n p
+
+abbrev pub ProgramsRefused : Type 0
+ProgramsRefused = (s : List ℕ) (n p : ℕ) → readProgram s ≡ no n p → Refusal s 11 n p
+
+-- The bound on calls never decides what is read: any larger one reads the same.
+abbrev pub CallsNeverDecide : Type 0
+CallsNeverDecide =
+    (s : List ℕ) (k : ℕ) → calls s ≤ k
+    → (readObj k s 0 markLimit ≡ readObj (calls s) s 0 markLimit) × (readDefinitions k s 0 ≡ readDefinitions (calls s) s 0)
