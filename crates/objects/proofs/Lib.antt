@@ -1,0 +1,4 @@
+-- The laws that the proofs of objects cite.
+pub mod NumberTexts
+pub mod Walks
+pub mod Writes

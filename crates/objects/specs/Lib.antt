@@ -1,0 +1,2 @@
+-- The definitions that the contracts of objects cite.
+pub mod Writings
