@@ -2,3 +2,4 @@
 pub mod NumberTexts
 pub mod Walks
 pub mod Writes
+pub mod Symbols

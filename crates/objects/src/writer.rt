@@ -11,6 +11,7 @@ ghost use Rattle.objects.specs.Writings.{PutByte, PutText, TextWalked, M
 use super::integers;
 use super::Written;
 use language::Val;
+use lexer::Case;
 
 // Writes b at the place `at`, where the output has room.
 fn put_byte(out: &mut [u8], at: usize, b: u8)
@@ -75,6 +76,16 @@ fn walk_decimal(out: &mut [u8], at: usize, cap: usize, n: u64) -> Written
     walk_text(out, at, cap, &a, first, 20)
 }
 
+// Walks over a symbol.
+fn walk_symbol(out: &mut [u8], at: usize, cap: usize, word: u64) -> Written
+    requires { ⌜ at ≤ cap ⌝ }
+    ensures { λ r. ⌜ SymbolWalked word at cap r (now (out .entry)) (now (out .exit)) ⌝ }
+{
+    let mut a = [0u8; 12];
+    let n = lexer::unpack(word, Case::Upper, &mut a);
+    walk_text(out, at, cap, &a, 0, n)
+}
+
 // Walks over a value that is no sequence.
 fn walk_atom(v: Val, out: &mut [u8], at: usize, cap: usize) -> Written
     requires { ⌜ at ≤ cap ⌝ }
@@ -83,7 +94,7 @@ fn walk_atom(v: Val, out: &mut [u8], at: usize, cap: usize) -> Written
     let tag = v.tag;
     let word = v.word;
     if tag == 2 {
-        return walk_decimal(out, at, cap, word);
+        return walk_symbol(out, at, cap, word);
     }
     if tag == 0 {
         return walk_decimal(out, at, cap, word);

@@ -7,23 +7,24 @@ use Rattle.objects.proofs.writer.walk_atom.Reads as reads
 use Rattle.objects.proofs.writer.walk_atom.Lts as lts
 use Rattle.objects.proofs.writer.put_byte.Reads as put-byte-reads
 use Rattle.objects.proofs.writer.walk_decimal.Reads as walk-decimal-reads
+use Rattle.objects.proofs.writer.walk_symbol.Reads as walk-symbol-reads
 use Rattle.std.proofs.num.wrapping_add_u64.Reads as wrapping-add-u64-reads
 
--- return walk_decimal(out, at, cap, word);
-walk-decimal-requires : tie.Need-walk-decimal-requires
-walk-decimal-requires c κs = search needs
+-- return walk_symbol(out, at, cap, word);
+walk-symbol-requires : tie.Need-walk-symbol-requires
+walk-symbol-requires c κs = search needs
 
--- return walk_decimal(out, at, cap, word);
+-- return walk_symbol(out, at, cap, word);
 same-length : tie.Need-same-length
 same-length c = search needs
 
--- return walk_decimal(out, at, cap, word);
+-- return walk_symbol(out, at, cap, word);
 returns : tie.Need-returns
 returns c = search atom-symbol
 
 -- return walk_decimal(out, at, cap, word);
-walk-decimal-requires-2 : tie.Need-walk-decimal-requires-2
-walk-decimal-requires-2 c κs = search needs
+walk-decimal-requires : tie.Need-walk-decimal-requires
+walk-decimal-requires c κs = search needs
 
 -- return walk_decimal(out, at, cap, word);
 same-length-2 : tie.Need-same-length-2
@@ -50,8 +51,8 @@ wrapping-add-u64-requires : tie.Need-wrapping-add-u64-requires
 wrapping-add-u64-requires c κs = search needs
 
 -- walk_decimal(out, at + 1, cap, std::num::wrapping_add_u64(word, 1))
-walk-decimal-requires-3 : tie.Need-walk-decimal-requires-3
-walk-decimal-requires-3 c κs = search needs
+walk-decimal-requires-2 : tie.Need-walk-decimal-requires-2
+walk-decimal-requires-2 c κs = search needs
 
 -- fn walk_atom(v: Val, out: &mut [u8], at: usize, cap: usize) -> Written
 same-length-3 : tie.Need-same-length-3
@@ -65,16 +66,16 @@ pub walk-atom-spec : {M : Type 1} → statement M
 walk-atom-spec =
     tie.close
     (tie.spec
-    walk-decimal-requires
+    walk-symbol-requires
     same-length
     returns
-    walk-decimal-requires-2
+    walk-decimal-requires
     same-length-2
     returns-2
     returns-3
     put-byte-requires
     add-walk-decimal
     wrapping-add-u64-requires
-    walk-decimal-requires-3
+    walk-decimal-requires-2
     same-length-3
     returns-4)
