@@ -3,3 +3,4 @@ pub mod NumberTexts
 pub mod Walks
 pub mod Writes
 pub mod Symbols
+pub mod ObjectReads
