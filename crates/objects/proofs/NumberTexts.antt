@@ -1,18 +1,18 @@
 -- Laws of decimals and of texts put into an output: the turns of both loops.
-use Prim.Native.Nat.{ℕ, zero, suc, _+_, _-_, _*_, _/_, _%_, _^_, _≤_, _<_}
+use Prim.Native.Nat.{ℕ, zero, suc, _+_, _-_, _/_, _%_, _^_, _≤_, _<_}
 use mathlib.Core.Path.{_≡_, refl, ap, sym, _∙_}
-use mathlib.Core.Bool.{Bool, true, false, cond}
+use mathlib.Core.Bool.{Bool, true, false}
 use mathlib.Core.List.{List, [], _∷_, _++_, append-assoc, append-nil}
 use native.Mathlib.Nat.{pow-suc}
 use native.Mathlib.Numerals.{add-one}
 use native.Mathlib.Omega.{arith}
 use borrow.Author.Tests.{le-leb, lt-leb, leb-true, leb-false}
 use lib.Dec.{leb}
-use lib.ListN.{length, take, drop, getD, set, length-append, length-set, drop-of-length-le}
+use lib.ListN.{length, take, drop, getD, set, length-set, drop-of-length-le}
 use lib.Seq.{slice, length-slice, getD-drop, getD-take, take-suc, take-all, drop-cons, drop-set-lt, getD-set-same, length-take-le}
 use Rattle.language.specs.Writing.{digits, decimal}
 use Rattle.tables.specs.Tables.{put}
-use Rattle.tables.proofs.Put.{put-after, put-none, length-put, set-put}
+use Rattle.tables.proofs.Put.{put-after, put-none, set-put}
 use Rattle.objects.specs.Writings.{DigitsAt, PutText}
 
 -- ---- decimals: the last digit is written behind the others, however many calls are allowed
@@ -127,7 +127,7 @@ put-turn {out₀} {at} {text} {out} {from} {to} {i} h g =
       most = omega arith;
       len = length-set out (at + i) x ∙ m;
       is = set-put out (at + i) x (omega arith) ∙ ap (λ (y : List ℕ). put y (at + i) (x ∷ [])) (g .is) ∙ ap (λ (k : ℕ). put (put out₀ at (take i t)) k (x ∷ [])) e
-        ∙ put-after out₀ at (take i t) (x ∷ []) (omega arith) ∙ ap (λ (y : List ℕ). put out₀ at y) (sym (rw (add-one, ← (byte-of text from to i h)) (take-suc t i 0 (omega arith))));
+          ∙ put-after out₀ at (take i t) (x ∷ []) (omega arith) ∙ ap (λ (y : List ℕ). put out₀ at y) (sym (rw (add-one, ← (byte-of text from to i h)) (take-suc t i 0 (omega arith))));
     }
 
 pub put-end : {out₀ : List ℕ} {at : ℕ} {text out : List ℕ} {from to i : ℕ} → to - from ≤ i → Putting out₀ at text out from to i → PutText out₀ at (slice from to text) out

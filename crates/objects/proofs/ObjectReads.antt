@@ -1,13 +1,10 @@
 -- The ways out of the object reader's functions, from what the functions that they call promise.
-use Prim.Native.Nat.{ℕ, zero, suc, _+_, _-_, _*_, _/_, _%_, _≤_, _<_}
-use Prim.Native.Char.{code}
+use Prim.Native.Nat.{ℕ, zero, suc, _+_, _-_, _*_, _/_, _%_, _≤_}
 use mathlib.Core.Path.{_≡_, refl, ap, sym, _∙_}
-use mathlib.Core.Bool.{Bool, true, false, cond}
-use mathlib.Core.List.{List, [], _∷_, _++_, append-assoc, append-nil}
+use mathlib.Core.List.{List, [], append-assoc, append-nil}
 use native.Mathlib.Nat.{add-zero, zero-add}
 use native.Mathlib.Omega.{arith}
 use borrow.Author.Tests.{eq-eqb, ne-eqb}
-use lib.Dec.{eqb}
 use lib.IntN.{pos, negsuc}
 use lib.ListN.{length, length-append}
 use lib.Seq.{slice, slice-empty}
@@ -24,7 +21,7 @@ use Rattle.tables.specs.Tables.{put}
 use Rattle.tables.proofs.Put.{put-after, put-before, put-none}
 use Rattle.tables.proofs.Records.{record-fits}
 use Rattle.cells.specs.Cells.{sequenceVal, cellPut}
-use Rattle.cells.specs.Encoding.{linkOf, valOf, cell, cellsFrom, placesFrom}
+use Rattle.cells.specs.Encoding.{valOf, cell, cellsFrom, placesFrom}
 use Rattle.lexer.specs.Readings as L
 use Rattle.lexer.specs.Judgements.{atomVal, atomJudged}
 use Rattle.lexer.specs.declared.AtomJudged.{AtomJudged}
@@ -61,6 +58,7 @@ later {s} {at} {p} {used} l h = record { ends = λ v e n f. go e n (h .ends v e 
 -- ---- cells
 mutual
   unfolding cellsFrom
+
   cells-long : (x : Obj) (c : ℕ) → length (cellsFrom c x) ≡ cellsOf x * 4
   cells-long (int z) c = refl
   cells-long (symbol w) c = refl
@@ -184,7 +182,7 @@ module _ (s : List ℕ) (at room j : ℕ) where
     places-more m = rw (first, m)
 
 sequence-is : (C : List ℕ) (used : ℕ) (r : ObjectRead) (C′ : List ℕ) (x : Obj) (xs : Objs) (e : ℕ) → r ≡ O.Got (sequenceVal (used + 1) (0 + suc (lengthOf xs))) e (used + cellsOfAll (x :: xs))
-  → ((used + cellsOfAll (x :: xs)) * 4 ≤ length C → C′ ≡ put C (used * 4) (placesFrom used (x :: xs))) → ReadMeets C used r C′ (got (seq (x :: xs)) e)
+    → ((used + cellsOfAll (x :: xs)) * 4 ≤ length C → C′ ≡ put C (used * 4) (placesFrom used (x :: xs))) → ReadMeets C used r C′ (got (seq (x :: xs)) e)
 unfolding cellsFrom
 sequence-is C used r C′ x xs e f h = reads (f ∙ ap (λ (m : ℕ). O.Got (sequenceVal (used + 1) m) e (used + cellsOfAll (x :: xs))) (zero-add (suc (lengthOf xs)))) h
 
@@ -222,7 +220,7 @@ module _ {s : List ℕ} {at room : ℕ} {C : List ℕ} {used p b : ℕ} (skipped
           record {
             ahead = ahead-of refl (record { behind = omega arith; inside = omega arith; more = omega arith; few = omega arith });
             means = λ k h. by-calls (λ k. ReadMeets C used (O.Got v (q + 1) used) C (readObj k s at room)) (2 * (length s - at)) k h
-              (λ j g. rw (read-empty s at room j (here skipped byte ∙ mark) some (there skipped skipped₂ byte₂ ∙ e), ← (second skipped skipped₂)) (reads {x = seq nil} {e = q + 1} (rw f (ap (λ (t : ℕ). O.Got (sequenceVal 0 0) (q + 1) t) (sym (add-zero used)))) (λ room. sym (put-none C (used * 4)))));
+                (λ j g. rw (read-empty s at room j (here skipped byte ∙ mark) some (there skipped skipped₂ byte₂ ∙ e), ← (second skipped skipped₂)) (reads {x = seq nil} {e = q + 1} (rw f (ap (λ (t : ℕ). O.Got (sequenceVal 0 0) (q + 1) t) (sym (add-zero used)))) (λ room. sym (put-none C (used * 4)))));
           }
 
       pub object-places : {r : ObjectRead} {C′ : List ℕ} → (d ≡ 62 → ⊥) → PlacesReading s (p + 1) (room - 1) C used r C′ → ObjectReading s at room C used r C′
@@ -232,7 +230,7 @@ module _ {s : List ℕ} {at room : ℕ} {C : List ℕ} {used p b : ℕ} (skipped
           record {
             ahead = later (omega arith) (w .ahead);
             means = λ k h. by-calls (λ k. ReadMeets C used r C′ (readObj k s at room)) (2 * (length s - at)) k h
-              (λ j g. rw (read-sequence s at room j (here skipped byte ∙ mark) some (λ m. o (sym (there skipped skipped₂ byte₂) ∙ m)), ← (skipped .is)) (go (readObjs j s (p + 1) (room - 1)) (w .all .means j (omega arith))));
+                (λ j g. rw (read-sequence s at room j (here skipped byte ∙ mark) some (λ m. o (sym (there skipped skipped₂ byte₂) ∙ m)), ← (skipped .is)) (go (readObjs j s (p + 1) (room - 1)) (w .all .means j (omega arith))));
           }
         where
           go : (g : Got Objs) → PlacesMeet used 0 used C r C′ g → ReadMeets C used r C′ (andThen g (λ xs e. got (seq xs) e))
@@ -252,7 +250,7 @@ read-no {s} {at} {room} {C} {used} {r} {C₁} {n} {p} w e k h = go (readObj k s 
         same t = cc
 
 with-object : {s : List ℕ} {at room : ℕ} {C : List ℕ} (c : ℕ) {r : ObjectRead} {C₁ : List ℕ} {v : Val} {e m : ℕ} → ObjectReading s at room C (c + 1) r C₁ → r ≡ O.Got v e m
-  → (R : Type 0) (k : ℕ) → 2 * (length s - at) + 1 ≤ k → ((x : Obj) → readObj k s at room ≡ got x e → v ≡ valOf (c + 1) x → m ≡ c + 1 + cellsOf x → ((c + 1 + cellsOf x) * 4 ≤ length C → C₁ ≡ put C ((c + 1) * 4) (cellsFrom (c + 1) x)) → R) → R
+    → (R : Type 0) (k : ℕ) → 2 * (length s - at) + 1 ≤ k → ((x : Obj) → readObj k s at room ≡ got x e → v ≡ valOf (c + 1) x → m ≡ c + 1 + cellsOf x → ((c + 1 + cellsOf x) * 4 ≤ length C → C₁ ≡ put C ((c + 1) * 4) (cellsFrom (c + 1) x)) → R) → R
 with-object {s} {at} {room} {C} c {r} {C₁} {v} {e} {m} w f R k h g = go (readObj k s at room) refl (w .means k h)
   where
     go : (y : Got Obj) → readObj k s at room ≡ y → ReadMeets C (c + 1) r C₁ y → R
@@ -285,7 +283,7 @@ module _ {s : List ℕ} {at room : ℕ} {C : List ℕ} {c : ℕ} {r : ObjectRead
       last = λ e₁ n₁ h. let x : e₁ ≡ q + 1 = cc in let y : n₁ ≡ m = cc in rw (x, y) (goes c w f skipped 62 (sym byte ∙ i) (omega arith));
       more = λ e₁ n₁ h. let z : _≡_ {A = ℕ} 0 1 = cc in absurd (omega arith);
       means = λ k h. with-object c w f (PlaceMeets s k at room C c (P.Last (q + 1) m) C₂) k h (λ x a u n p.
-        last-place x (ap (λ (t : ℕ). P.Last (q + 1) t) n) (places-last s at room k x e a (here skipped byte ∙ i) ∙ ap (λ (t : ℕ). got (x :: nil) (t + 1)) (sym (skipped .is))) (place-put C c x 0 v u l p g));
+          last-place x (ap (λ (t : ℕ). P.Last (q + 1) t) n) (places-last s at room k x e a (here skipped byte ∙ i) ∙ ap (λ (t : ℕ). got (x :: nil) (t + 1)) (sym (skipped .is))) (place-put C c x 0 v u l p g));
     }
 
     pub place-bad : {n : ℕ} → (b ≡ 62 → ⊥) → (b ≡ 44 → ⊥) → n ≡ refusalOf (wordAt s q) → PlaceReading s at room C c (P.No n q) C₁
@@ -293,7 +291,7 @@ module _ {s : List ℕ} {at room : ℕ} {C : List ℕ} {c : ℕ} {r : ObjectRead
       last = λ e₁ n₁ t. let z : _≡_ {A = ℕ} 0 1 = cc in absurd (omega arith);
       more = λ e₁ n₁ t. let z : _≡_ {A = ℕ} 0 1 = cc in absurd (omega arith);
       means = λ k h. with-object c w f (PlaceMeets s k at room C c (P.No n q) C₁) k h (λ x a u n₁ p.
-        no-place refl (places-bad s at room k x e a (λ t. i (sym (here skipped byte) ∙ t)) (λ t. o (sym (here skipped byte) ∙ t)) ∙ rw (← (skipped .is), ← g)));
+          no-place refl (places-bad s at room k x e a (λ t. i (sym (here skipped byte) ∙ t)) (λ t. o (sym (here skipped byte) ∙ t)) ∙ rw (← (skipped .is), ← g)));
     }
 
     pub place-more : {C₂ : List ℕ} → b ≡ 44 → length C₁ ≡ length C → C₂ ≡ cellPut C₁ c v (m + 1) → PlaceReading s at room C c (P.More (q + 1) m) C₂
@@ -301,8 +299,8 @@ module _ {s : List ℕ} {at room : ℕ} {C : List ℕ} {c : ℕ} {r : ObjectRead
       last = λ e₁ n₁ h. let z : _≡_ {A = ℕ} 0 1 = cc in absurd (omega arith);
       more = λ e₁ n₁ h. let x : e₁ ≡ q + 1 = cc in let y : n₁ ≡ m = cc in rw (x, y) (goes c w f skipped 44 (sym byte ∙ i) (omega arith));
       means = λ k h. with-object c w f (PlaceMeets s k at room C c (P.More (q + 1) m) C₂) k h (λ x a u n p.
-        more-places x (ap (λ (t : ℕ). P.More (q + 1) t) n) (places-more s at room k x e a (here skipped byte ∙ i) ∙ ap (λ (t : ℕ). andThen (readObjs k s (t + 1) room) (λ xs e. got (x :: xs) e)) (sym (skipped .is)))
-        (place-put C c x (c + 1 + cellsOf x + 1) v u l p (g ∙ ap (λ (t : ℕ). cellPut C₁ c v (t + 1)) n)));
+          more-places x (ap (λ (t : ℕ). P.More (q + 1) t) n) (places-more s at room k x e a (here skipped byte ∙ i) ∙ ap (λ (t : ℕ). andThen (readObjs k s (t + 1) room) (λ xs e. got (x :: xs) e)) (sym (skipped .is)))
+          (place-put C c x (c + 1 + cellsOf x + 1) v u l p (g ∙ ap (λ (t : ℕ). cellPut C₁ c v (t + 1)) n)));
     }
 
 -- ---- the places of a sequence: what is read from here on is read from the start on

@@ -1,15 +1,13 @@
 -- Symbols: what was packed is walked over as it was written, and an atom is held as the reader's cells hold it.
-use Prim.Native.Nat.{ℕ, _+_, _≤_}
-use mathlib.Core.Path.{_≡_, refl, ap, ap₂, sym, _∙_}
-use mathlib.Core.Bool.{Bool, true, _||_}
+use Prim.Native.Nat.{ℕ}
+use mathlib.Core.Path.{_≡_, refl, ap, sym, _∙_}
+use mathlib.Core.Bool.{true}
 use mathlib.Core.List.{List, [], _∷_, _++_}
 use native.Mathlib.Omega.{arith}
-use lib.IntN.{pos, negsuc}
-use lib.ListN.{length, take, drop}
+use lib.ListN.{take, drop}
 use lib.Seq.{slice, take-append-seam}
-use Rattle.language.specs.Objects.{Obj, int, symbol, seq}
 use Rattle.language.specs.Tokens.{isDigit, isUpper}
-use Rattle.language.specs.Judging.{all, isSymbolByte}
+use Rattle.language.specs.Judging.{isSymbolByte}
 use Rattle.language.specs.Accepted.{IsSymbol}
 use Rattle.language.specs.Packing.{letterOf, packed}
 use Rattle.theorems.proofs.Texts.{all-weaken, digit-range, upper-range, or-cases}

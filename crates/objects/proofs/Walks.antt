@@ -1,5 +1,5 @@
 -- Laws of walks: one text behind another, bytes that open and close nothing, the marks.
-use Prim.Native.Nat.{ℕ, zero, suc, _+_, _-_, _*_, _≤_, _<_}
+use Prim.Native.Nat.{ℕ, _+_, _-_, _≤_, _<_}
 use Prim.Native.Char.{code}
 use mathlib.Core.Path.{_≡_, refl, ap, sym, _∙_}
 use mathlib.Core.Bool.{Bool, true, false, cond, not, _&&_, and-eq-true-iff}
@@ -12,7 +12,7 @@ use lib.ListN.{length, length-append}
 use Rattle.language.specs.Judging.{all}
 use Rattle.language.specs.Writing.{Scan, on, short, deep, openBehind, scan}
 use Rattle.tables.specs.Tables.{put}
-use Rattle.tables.proofs.Put.{put-after, set-put}
+use Rattle.tables.proofs.Put.{put-after}
 use Rattle.objects.specs.Writings.{Walked, fits, too-long, too-deep, Within, PutByte, isFlat}
 use Rattle.objects.specs.declared.Written.{Written}
 use Rattle.objects.specs.declared.Written.the-variants as W
@@ -29,7 +29,7 @@ scan-append [] b d r = refl
 scan-append (x ∷ a) b d r = go (eqb x (code "<") && leb 32 d) (eqb r 0) (scan-append a b (openBehind x d) (r - 1))
   where
     go : (t u : Bool) → scan (a ++ b) (openBehind x d) (r - 1) ≡ andScan (scan a (openBehind x d) (r - 1)) (λ d r. scan b d r)
-      → cond t deep (cond u short (scan (a ++ b) (openBehind x d) (r - 1))) ≡ andScan (cond t deep (cond u short (scan a (openBehind x d) (r - 1)))) (λ d r. scan b d r)
+        → cond t deep (cond u short (scan (a ++ b) (openBehind x d) (r - 1))) ≡ andScan (cond t deep (cond u short (scan a (openBehind x d) (r - 1)))) (λ d r. scan b d r)
     go true u h = refl
     go false true h = refl
     go false false h = h

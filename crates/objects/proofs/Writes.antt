@@ -1,25 +1,23 @@
 -- The ways out of the writer's functions, from what the functions that they call promise.
-use Prim.Native.Nat.{ℕ, zero, suc, min, _+_, _-_, _*_, _%_, _^_, _≤_, _<_}
-use Prim.Native.Char.{code}
-use mathlib.Core.Path.{_≡_, refl, ap, sym, subst, _∙_}
-use mathlib.Core.Bool.{Bool, true}
+use Prim.Native.Nat.{ℕ, suc, _+_, _-_, _%_, _^_, _≤_, _<_}
+use mathlib.Core.Path.{_≡_, refl, ap, sym, _∙_}
+use mathlib.Core.Bool.{true}
 use mathlib.Core.List.{List, [], _∷_, _++_, append-assoc}
 use native.Mathlib.Nat.{zero-add, sub-zero}
 use native.Mathlib.Omega.{arith}
-use lib.IntN.{pos, negsuc}
-use lib.ListN.{length, drop, take, length-append}
+use lib.ListN.{length, drop}
 use lib.Seq.{slice, length-slice, take-all}
-use Rattle.language.specs.Objects.{Obj, int, seq, Objs, nil, _::_, lengthOf}
+use Rattle.language.specs.Objects.{Obj, seq, Objs, nil, _::_, lengthOf}
 use Rattle.language.specs.Tokens.{isDigit}
 use Rattle.language.specs.Judging.{all}
-use Rattle.language.specs.Writing.{decimal, writeInteger, writeObj, writeObjs, writeMoreObjs, Scan, on, short, deep, scan, openBehind}
+use Rattle.language.specs.Writing.{decimal, writeInteger, writeObj, writeObjs, Scan, on, short, deep, scan, openBehind}
 use Rattle.language.specs.declared.Val.{Val}
 use Rattle.theorems.proofs.Texts.{all-weaken, digit-range}
 use Rattle.theorems.proofs.Decimals.{decimal-digits}
 use Rattle.tables.specs.Tables.{put}
 use Rattle.cells.specs.Cells.{Rep, rep-pos, rep-neg, rep-symbol, rep-nil, rep-more}
 use Rattle.cells.specs.Parts.{Sized, Headed, Tailed}
-use Rattle.objects.specs.Writings.{DigitsAt, PutByte, PutText, Walked, fits, too-long, too-deep, Within, isFlat, TextWalked, MarkWalked, DecimalWalked, SymbolWalked, AtomWalked, ObjectWalked, PlaceWalked, PlacesWalked, outputRoom, Outcome, done, no-room, no-mark, ObjectWritten}
+use Rattle.objects.specs.Writings.{DigitsAt, PutByte, PutText, Walked, fits, too-long, too-deep, isFlat, TextWalked, MarkWalked, DecimalWalked, SymbolWalked, AtomWalked, ObjectWalked, PlaceWalked, PlacesWalked, outputRoom, Outcome, done, no-room, no-mark, ObjectWritten}
 use Rattle.objects.specs.declared.Written.{Written}
 use Rattle.objects.specs.declared.Written.the-variants as W
 use Rattle.objects.proofs.Walks.{flat-is, walk-short, walk-deep, walk-then, flat-long, flat-walk, mark-long, mark-walk, open-deep, open-long, open-walk, within-short, within-deep, within-done, within-later}
@@ -198,8 +196,8 @@ module _ {C : List ℕ} {v : Val} {out₀ : List ℕ} {from cap opened : ℕ} wh
   module _ {left : ℕ} {s : Val} {at : ℕ} {out : List ℕ} (g : PlacesLeft C v out₀ from cap opened left s at out) where
     -- with an object behind the first of those left
     more-left : (n : ℕ) (xs : Objs) {r : Written} {out₁ : List ℕ} → n < 4294967296 → 1 < left → PlaceWalked C s at cap opened 44 r out out₁ → (R : Type 0) → Rest C n xs out₀ from cap opened left s at out
-      → ((y z : Obj) (zs : Objs) → Rep C n s (seq (y :: z :: zs)) → suc (suc (lengthOf zs)) ≡ left → Walked (writeObj y ++ (44 ∷ [])) opened opened at cap r out out₁
-      → ((r′ : Written) (out′ : List ℕ) → Walked ((writeObj y ++ (44 ∷ [])) ++ writeObjs (z :: zs)) opened (opened - 1) at cap r′ out out′ → Walked (writeObjs xs) opened (opened - 1) from cap r′ out₀ out′) → R) → R
+        → ((y z : Obj) (zs : Objs) → Rep C n s (seq (y :: z :: zs)) → suc (suc (lengthOf zs)) ≡ left → Walked (writeObj y ++ (44 ∷ [])) opened opened at cap r out out₁
+        → ((r′ : Written) (out′ : List ℕ) → Walked ((writeObj y ++ (44 ∷ [])) ++ writeObjs (z :: zs)) opened (opened - 1) at cap r′ out out′ → Walked (writeObjs xs) opened (opened - 1) from cap r′ out₀ out′) → R) → R
     unfolding writeObj
     more-left n xs {r} {out₁} u h w R q f = go (q .y) (q .ys) (q .rep) (q .size) (q .so-far)
       where
@@ -216,7 +214,7 @@ module _ {C : List ℕ} {v : Val} {out₀ : List ℕ} {from cap opened : ℕ} wh
           high = b .1;
           len = l ∙ g .len;
           means = λ n x xs u rep. more-left n (x :: xs) u h w (Rest C n (x :: xs) out₀ from cap opened (left - 1) s₁ e out₁) (g .means n x xs u rep) (λ y z zs rep₁ size walked k.
-            record { y = z; ys = zs; rep = t .means n y (z :: zs) u rep₁; size = omega arith; so-far = λ r′ out′ w′. k r′ out′ (walk-then walked f l w′) });
+              record { y = z; ys = zs; rep = t .means n y (z :: zs) u rep₁; size = omega arith; so-far = λ r′ out′ w′. k r′ out′ (walk-then walked f l w′) });
         }
 
     pub places-short : {r : Written} {out₁ : List ℕ} → 1 < left → PlaceWalked C s at cap opened 44 r out out₁ → r ≡ W.Short → PlacesWalked C v from cap opened W.Short out₀ out₁
@@ -240,28 +238,33 @@ module _ {C : List ℕ} {v : Val} {out₀ : List ℕ} {from cap opened : ℕ} wh
 measured : (cap : ℕ) {y : Scan} (x : Obj) → scan (writeObj x) 0 (cap - 0) ≡ y → scan (writeObj x) 0 cap ≡ y
 measured cap x s = ap (λ (q : ℕ). scan (writeObj x) 0 q) (sym (sub-zero cap)) ∙ s
 
-module _ {C : List ℕ} {v : Val} {cap : ℕ} {r₁ : Written} {none none₁ out : List ℕ} where
-  pub write-short : cap ≡ outputRoom (length out) → ObjectWalked C v 0 cap 0 r₁ none none₁ → r₁ ≡ W.Short → ObjectWritten C v W.Short out out
-  write-short c w e = record { within = within-short refl; means = λ n x u rep. rw (← c) (go x (w .means n x u rep)) }
+-- the walk that measures may write to no byte
+no-bytes : (a : List ℕ) → length a ≡ 0 → a ≡ []
+no-bytes [] h = refl
+no-bytes (b ∷ a) h = absurd (omega arith)
+
+module _ {C : List ℕ} {v : Val} {cap : ℕ} {r₁ : Written} {none none₁ out : List ℕ} (empty : length none₁ ≡ 0) where
+  pub write-short : cap ≡ outputRoom (length out) → ObjectWalked C v 0 cap 0 r₁ none none₁ → r₁ ≡ W.Short → ObjectWritten C v W.Short out (none₁ ++ out)
+  write-short c w e = record { within = within-short refl; means = λ n x u rep. rw (← c, no-bytes none₁ empty) (go x (w .means n x u rep)) }
     where
       go : (x : Obj) → Walked (writeObj x) 0 0 0 cap r₁ none none₁ → Outcome (writeObj x) W.Short out out (scan (writeObj x) 0 cap)
       go x (fits f l s p) = let z : _≡_ {A = ℕ} 0 1 = cc in absurd (omega arith)
       go x (too-long f s) = rw (measured cap x s) (no-room refl refl)
       go x (too-deep f s) = let z : _≡_ {A = ℕ} 0 1 = cc in absurd (omega arith)
 
-  pub write-deep : cap ≡ outputRoom (length out) → ObjectWalked C v 0 cap 0 r₁ none none₁ → r₁ ≡ W.Deep → ObjectWritten C v W.Deep out out
-  write-deep c w e = record { within = within-deep refl; means = λ n x u rep. rw (← c) (go x (w .means n x u rep)) }
+  pub write-deep : cap ≡ outputRoom (length out) → ObjectWalked C v 0 cap 0 r₁ none none₁ → r₁ ≡ W.Deep → ObjectWritten C v W.Deep out (none₁ ++ out)
+  write-deep c w e = record { within = within-deep refl; means = λ n x u rep. rw (← c, no-bytes none₁ empty) (go x (w .means n x u rep)) }
     where
       go : (x : Obj) → Walked (writeObj x) 0 0 0 cap r₁ none none₁ → Outcome (writeObj x) W.Deep out out (scan (writeObj x) 0 cap)
       go x (fits f l s p) = let z : _≡_ {A = ℕ} 0 1 = cc in absurd (omega arith)
       go x (too-long f s) = let z : _≡_ {A = ℕ} 0 1 = cc in absurd (omega arith)
       go x (too-deep f s) = rw (measured cap x s) (no-mark refl refl)
 
-  pub write-done : {e : ℕ} {r₂ : Written} {out₂ : List ℕ} → cap ≡ outputRoom (length out) → ObjectWalked C v 0 cap 0 r₁ none none₁ → r₁ ≡ W.Done e → ObjectWalked C v 0 cap 0 r₂ out out₂ → ObjectWritten C v (W.Done e) out out₂
+  pub write-done : {e : ℕ} {r₂ : Written} {out₂ : List ℕ} → cap ≡ outputRoom (length out) → ObjectWalked C v 0 cap 0 r₁ none none₁ → r₁ ≡ W.Done e → ObjectWalked C v 0 cap 0 r₂ (none₁ ++ out) out₂ → ObjectWritten C v (W.Done e) out out₂
   unfolding put
   write-done {e} {r₂} {out₂} c w f w₂ =
       let b = w .within .ends e f in
-      record { within = within-done e refl (b .0) (rw (← c) (b .1)); means = λ n x u rep. rw (← c) (go x (w .means n x u rep) (w₂ .means n x u rep)) }
+      record { within = within-done e refl (b .0) (rw (← c) (b .1)); means = λ n x u rep. rw (← c) (go x (w .means n x u rep) (rw (no-bytes none₁ empty) at (w₂ .means n x u rep))) }
     where
       text-put : (t : List ℕ) → put out 0 t ≡ t ++ drop (length t) out
       text-put t = rw zero-add

@@ -46,9 +46,9 @@ placeCells at-cell x next = cell (valOf (at-cell + 1) x) next ++ cellsFrom (at-c
 pub data PlaceMeets (s : List ℕ) (k at room : ℕ) (C : List ℕ) (at-cell : ℕ) (r : PlaceRead) (C′ : List ℕ) : Type 0 where
   no-place : {n p : ℕ} → r ≡ P.No n p → readObjs (suc k) s at room ≡ no n p → PlaceMeets s k at room C at-cell r C′
   last-place : (x : Obj) {e : ℕ} → r ≡ P.Last e (at-cell + 1 + cellsOf x) → readObjs (suc k) s at room ≡ got (x :: nil) e
-    → ((at-cell + 1 + cellsOf x) * 4 ≤ length C → C′ ≡ put C (at-cell * 4) (placeCells at-cell x 0)) → PlaceMeets s k at room C at-cell r C′
+      → ((at-cell + 1 + cellsOf x) * 4 ≤ length C → C′ ≡ put C (at-cell * 4) (placeCells at-cell x 0)) → PlaceMeets s k at room C at-cell r C′
   more-places : (x : Obj) {e : ℕ} → r ≡ P.More e (at-cell + 1 + cellsOf x) → readObjs (suc k) s at room ≡ andThen (readObjs k s e room) (λ xs e. got (x :: xs) e)
-    → ((at-cell + 1 + cellsOf x) * 4 ≤ length C → C′ ≡ put C (at-cell * 4) (placeCells at-cell x (at-cell + 1 + cellsOf x + 1))) → PlaceMeets s k at room C at-cell r C′
+      → ((at-cell + 1 + cellsOf x) * 4 ≤ length C → C′ ≡ put C (at-cell * 4) (placeCells at-cell x (at-cell + 1 + cellsOf x + 1))) → PlaceMeets s k at room C at-cell r C′
 
 pub record PlaceReading (s : List ℕ) (at room : ℕ) (C : List ℕ) (at-cell : ℕ) (r : PlaceRead) (C′ : List ℕ) : Type 0 where
   pub last : (e n : ℕ) → r ≡ P.Last e n → Goes s at (at-cell + 1) e n × (n + at ≤ at-cell + e)
@@ -58,7 +58,7 @@ pub record PlaceReading (s : List ℕ) (at room : ℕ) (C : List ℕ) (at-cell :
 -- The places from cell `at-cell` on, behind n others of a sequence whose first cell is `first`.
 pub data PlacesMeet (first n at-cell : ℕ) (C : List ℕ) (r : ObjectRead) (C′ : List ℕ) : Got Objs → Type 0 where
   all-read : {x : Obj} {xs : Objs} {e : ℕ} → r ≡ O.Got (sequenceVal (first + 1) (n + suc (lengthOf xs))) e (at-cell + cellsOfAll (x :: xs))
-    → ((at-cell + cellsOfAll (x :: xs)) * 4 ≤ length C → C′ ≡ put C (at-cell * 4) (placesFrom at-cell (x :: xs))) → PlacesMeet first n at-cell C r C′ (got (x :: xs) e)
+      → ((at-cell + cellsOfAll (x :: xs)) * 4 ≤ length C → C′ ≡ put C (at-cell * 4) (placesFrom at-cell (x :: xs))) → PlacesMeet first n at-cell C r C′ (got (x :: xs) e)
   not-read : {k p : ℕ} → r ≡ O.No k p → PlacesMeet first n at-cell C r C′ (no k p)
 
 pub record PlacesFrom (s : List ℕ) (at room first n at-cell : ℕ) (C : List ℕ) (r : ObjectRead) (C′ : List ℕ) : Type 0 where

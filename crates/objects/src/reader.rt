@@ -4,7 +4,6 @@ ghost use mathlib.Core.Path.{_≡_};
 ghost use Prim.Native.Nat.{ℕ, _+_, _-_, _≤_};
 ghost use lib.ListN.{length};
 ghost use Rattle.objects.specs.Readings.{AtomReading, ObjectReading, PlaceReading, PlacesReading, WholeReading};
-
 use super::ObjectRead;
 use super::PlaceRead;
 use lexer::AtomJudged;
@@ -55,7 +54,11 @@ fn read_places(s: &[u8], from: usize, room: u32, c: &mut [u32], used: u32) -> Ob
     loop {
         match read_place(s, at, room, c, cell) {
             PlaceRead::No(k, p) => return ObjectRead::No(k, p),
-            PlaceRead::Last(e, end) => return ObjectRead::Got(cells::sequence(used + 1, n + 1), e, end),
+            PlaceRead::Last(e, end) => return ObjectRead::Got(
+                cells::sequence(used + 1, n + 1),
+                e,
+                end,
+            ),
             PlaceRead::More(e, end) => {
                 at = e;
                 cell = end;

@@ -7,9 +7,8 @@ ghost use lib.ListN.{length};
 ghost use lib.Seq.{slice};
 ghost use Rattle.language.specs.Writing.{decimal};
 ghost use Rattle.objects.specs.Writings.{PutByte, PutText, TextWalked, MarkWalked, DecimalWalked, SymbolWalked, AtomWalked, ObjectWalked, PlaceWalked, PlacesWalked, ObjectWritten, outputRoom};
-
-use super::integers;
 use super::Written;
+use super::integers;
 use language::Val;
 use lexer::Case;
 
@@ -150,7 +149,15 @@ fn walk_places(c: &[u32], v: Val, out: &mut [u8], from: usize, cap: usize, opene
 }
 
 // Walks over the object in a sequence's first place, and the mark b behind it.
-fn walk_place(c: &[u32], v: Val, out: &mut [u8], at: usize, cap: usize, opened: u32, b: u8) -> Written
+fn walk_place(
+    c: &[u32],
+    v: Val,
+    out: &mut [u8],
+    at: usize,
+    cap: usize,
+    opened: u32,
+    b: u8,
+) -> Written
     requires { ⌜ at ≤ cap ⌝ }
     ensures { λ r. ⌜ PlaceWalked (now (c .entry)) v at cap opened b r (now (out .entry)) (now (out .exit)) ⌝ }
 {
@@ -173,8 +180,8 @@ pub fn write_object(c: &[u32], v: Val, out: &mut [u8]) -> Written
     ensures { λ r. ⌜ ObjectWritten (now (c .entry)) v r (now (out .entry)) (now (out .exit)) ⌝ }
 {
     let cap = output_room(out.len());
-    let mut nothing = [0u8; 1];
-    let end = match walk_object(c, v, &mut nothing, 0, cap, 0) {
+    let none = 0;
+    let end = match walk_object(c, v, &mut out[..none], 0, cap, 0) {
         Written::Short => return Written::Short,
         Written::Deep => return Written::Deep,
         Written::Done(e) => e,

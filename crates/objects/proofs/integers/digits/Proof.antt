@@ -1,11 +1,10 @@
+-- The digits of n stand at the end of the array. The invariant: what is left of n, and behind it the digits that stand.
 use borrow.Author.Needs.{needs}
 use native.Mathlib.Omega.{arith}
 use lib.ListN.{length-set}
 use Rattle.objects.proofs.NumberTexts.{Spelling, spell-start, spell-turn, spell-end}
 use Rattle.objects.proofs.integers.digits.Statement.{statement}
 use Rattle.objects.proofs.integers.digits.Tie as tie
-use Rattle.objects.proofs.integers.digits.Reads as reads
-use Rattle.objects.proofs.integers.digits.Lts as lts
 
 abbrev Inv-loop : tie.InvT-loop
 Inv-loop n a₀ left₀ i₀ a left i = Spelling n a left i

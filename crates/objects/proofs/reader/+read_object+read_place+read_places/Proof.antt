@@ -1,3 +1,5 @@
+-- An object, one place and all places of a sequence are read as the definitions read them, for any bound on calls that is
+-- enough. Marks left to open are the measure; what is left of the text is the measure of the loop.
 use borrow.Author.Needs.{needs}
 use native.Mathlib.Omega.{arith}
 use Prim.Native.Nat.{ℕ, _<_}

@@ -1,12 +1,8 @@
-use native.Mathlib.Omega.{arith}
+-- A word or number is what it is judged to be.
 use borrow.Author.Needs.{needs}
 use Rattle.objects.proofs.ObjectReads.{atom-empty, atom-not, atom-is}
 use Rattle.objects.proofs.reader.read_atom.Statement.{statement}
 use Rattle.objects.proofs.reader.read_atom.Tie as tie
-use Rattle.objects.proofs.reader.read_atom.Reads as reads
-use Rattle.objects.proofs.reader.read_atom.Lts as lts
-use Rattle.lexer.proofs.judge_atom.Reads as judge-atom-reads
-use Rattle.lexer.proofs.size_at.Reads as size-at-reads
 
 -- let n = lexer::size_at(s, p);
 size-at-requires : tie.Need-size-at-requires

@@ -1,13 +1,8 @@
-use native.Mathlib.Omega.{arith}
+-- A whole text is one object with nothing but blanks behind it, or is refused as the definitions do.
 use borrow.Author.Needs.{needs}
 use Rattle.objects.proofs.ObjectReads.{whole-no, whole-end, whole-more}
 use Rattle.objects.proofs.reader.read_whole_object.Statement.{statement}
 use Rattle.objects.proofs.reader.read_whole_object.Tie as tie
-use Rattle.objects.proofs.reader.read_whole_object.Reads as reads
-use Rattle.objects.proofs.reader.read_whole_object.Lts as lts
-use Rattle.lexer.proofs.refusal.Reads as refusal-reads
-use Rattle.lexer.proofs.skip_blanks.Reads as skip-blanks-reads
-use Rattle.objects.proofs.reader.read_object.Reads as read-object-reads
 
 -- match read_object(s, 0, 32, c, used) {
 read-object-requires : tie.Need-read-object-requires

@@ -1,5 +1,5 @@
+-- A walk answers by the scan of its object's text. Marks left to open are the measure, so that no premise is needed for it.
 use borrow.Author.Needs.{needs}
-use native.Mathlib.Omega.{arith}
 use Prim.Native.Nat.{ℕ, _<_}
 use borrow.Fn.Kinds.{In}
 use borrow.Fn.PlainCycle.{Measures, is, falls, and}

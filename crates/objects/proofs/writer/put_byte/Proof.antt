@@ -1,10 +1,9 @@
+-- A byte is put where the output has room.
 use native.Mathlib.Omega.{arith}
 use borrow.Author.Needs.{needs}
 use Rattle.tables.proofs.Put.{set-put}
 use Rattle.objects.proofs.writer.put_byte.Statement.{statement}
 use Rattle.objects.proofs.writer.put_byte.Tie as tie
-use Rattle.objects.proofs.writer.put_byte.Reads as reads
-use Rattle.objects.proofs.writer.put_byte.Lts as lts
 
 -- out[at] = b;
 slice-write-out : tie.Need-slice-write-out

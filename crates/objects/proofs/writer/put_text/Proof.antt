@@ -1,11 +1,10 @@
+-- A text is put where the output has room for all of it. The invariant: its first i bytes stand.
 use borrow.Author.Needs.{needs}
 use native.Mathlib.Omega.{arith}
 use Prim.Native.Nat.{_-_}
 use Rattle.objects.proofs.NumberTexts.{Putting, put-none-yet, put-small, put-far, put-turn, put-end}
 use Rattle.objects.proofs.writer.put_text.Statement.{statement}
 use Rattle.objects.proofs.writer.put_text.Tie as tie
-use Rattle.objects.proofs.writer.put_text.Reads as reads
-use Rattle.objects.proofs.writer.put_text.Lts as lts
 
 abbrev Inv-loop : tie.InvT-loop
 Inv-loop out₀ at text from to n i₀ out i = Putting out₀ at text out from to i

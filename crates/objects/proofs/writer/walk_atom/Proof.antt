@@ -1,14 +1,8 @@
-use native.Mathlib.Omega.{arith}
+-- A value that is no sequence is walked over as its object is written.
 use borrow.Author.Needs.{needs}
 use Rattle.objects.proofs.Writes.{atom-symbol, atom-number, atom-full, atom-negative}
 use Rattle.objects.proofs.writer.walk_atom.Statement.{statement}
 use Rattle.objects.proofs.writer.walk_atom.Tie as tie
-use Rattle.objects.proofs.writer.walk_atom.Reads as reads
-use Rattle.objects.proofs.writer.walk_atom.Lts as lts
-use Rattle.objects.proofs.writer.put_byte.Reads as put-byte-reads
-use Rattle.objects.proofs.writer.walk_decimal.Reads as walk-decimal-reads
-use Rattle.objects.proofs.writer.walk_symbol.Reads as walk-symbol-reads
-use Rattle.std.proofs.num.wrapping_add_u64.Reads as wrapping-add-u64-reads
 
 -- return walk_symbol(out, at, cap, word);
 walk-symbol-requires : tie.Need-walk-symbol-requires

@@ -1,12 +1,8 @@
-use native.Mathlib.Omega.{arith}
+-- The digits of n are walked over as the definitions write them.
 use borrow.Author.Needs.{needs}
 use Rattle.objects.proofs.Writes.{decimal-walk}
 use Rattle.objects.proofs.writer.walk_decimal.Statement.{statement}
 use Rattle.objects.proofs.writer.walk_decimal.Tie as tie
-use Rattle.objects.proofs.writer.walk_decimal.Reads as reads
-use Rattle.objects.proofs.writer.walk_decimal.Lts as lts
-use Rattle.objects.proofs.integers.digits.Reads as digits-reads
-use Rattle.objects.proofs.writer.walk_text.Reads as walk-text-reads
 
 -- let first = integers::digits(n, &mut a);
 slice-aggregate-digits : tie.Need-slice-aggregate-digits

@@ -1,12 +1,10 @@
+-- A mark that opens nothing fits, and is put; or there is no room for it.
 use native.Mathlib.Omega.{arith}
 use borrow.Author.Needs.{needs}
 use mathlib.Core.Path.{refl}
 use Rattle.objects.proofs.Walks.{within-short, within-done, mark-long, mark-walk}
 use Rattle.objects.proofs.writer.walk_mark.Statement.{statement}
 use Rattle.objects.proofs.writer.walk_mark.Tie as tie
-use Rattle.objects.proofs.writer.walk_mark.Reads as reads
-use Rattle.objects.proofs.writer.walk_mark.Lts as lts
-use Rattle.objects.proofs.writer.put_byte.Reads as put-byte-reads
 
 -- return Written::Short;
 returns : tie.Need-returns

@@ -1,12 +1,8 @@
-use native.Mathlib.Omega.{arith}
+-- A symbol is walked over as it was before it was packed.
 use borrow.Author.Needs.{needs}
 use Rattle.objects.proofs.Symbols.{symbol-walk}
 use Rattle.objects.proofs.writer.walk_symbol.Statement.{statement}
 use Rattle.objects.proofs.writer.walk_symbol.Tie as tie
-use Rattle.objects.proofs.writer.walk_symbol.Reads as reads
-use Rattle.objects.proofs.writer.walk_symbol.Lts as lts
-use Rattle.lexer.proofs.unpack.Reads as unpack-reads
-use Rattle.objects.proofs.writer.walk_text.Reads as walk-text-reads
 
 -- let n = lexer::unpack(word, Case::Upper, &mut a);
 slice-aggregate-unpack : tie.Need-slice-aggregate-unpack

@@ -1,11 +1,8 @@
-use native.Mathlib.Omega.{arith}
+-- A text without marks fits, and is put; or it is too long.
 use borrow.Author.Needs.{needs}
 use Rattle.objects.proofs.Writes.{text-short, text-done}
 use Rattle.objects.proofs.writer.walk_text.Statement.{statement}
 use Rattle.objects.proofs.writer.walk_text.Tie as tie
-use Rattle.objects.proofs.writer.walk_text.Reads as reads
-use Rattle.objects.proofs.writer.walk_text.Lts as lts
-use Rattle.objects.proofs.writer.put_text.Reads as put-text-reads
 
 -- let n = to - from;
 sub-n : tie.Need-sub-n
