@@ -1,0 +1,81 @@
+// The table of primitive words with their cell rules: searched by the reader, written from, consulted by the evaluator.
+ghost use mathlib.Core.Path.{_≡_};
+ghost use Prim.Native.Nat.{_≤_};
+ghost use lib.ListN.{length, getD};
+ghost use lib.Seq.{slice};
+ghost use Rattle.language.specs.Bytes.{sameBytes};
+ghost use Rattle.language.specs.Words.{ops};
+ghost use Rattle.language.specs.Judging.{findOp};
+ghost use Rattle.lexer.specs.Vocabulary.{spelledAt, ruleAt, codeOf};
+
+// For each word, in the order of the definitions: its cell rule, its length, and its letters up to the seventh place.
+const TABLE: [u8; 207] = *b"02id     02tl     04atom   04null   02eq     02lt     06length 03add    03sub    03mul    03div    03and    02or     03not    15apndl  23tlr    37reverse34rotl   34rotr   45apndr  55distl  55distr  65trans  ";
+
+// The cell rule of the word with this code, 0 past the table.
+pub fn cell_rule(code: u32) -> u32
+    ensures { λ r. ⌜ r ≡ ruleAt code ⌝ }
+{
+    if 22 < code {
+        return 0;
+    }
+    let row = (code as usize) * 9;
+    (TABLE[row] - b'0') as u32
+}
+
+// The length of the word with this code, 0 past the table.
+pub fn word_length(code: u32) -> usize
+    ensures { λ r. ⌜ (r ≡ length (spelledAt code)) × (r ≤ 7) ⌝ }
+{
+    if 22 < code {
+        return 0;
+    }
+    let row = (code as usize) * 9;
+    (TABLE[row + 1] - b'0') as usize
+}
+
+// The byte i of the word with this code, 0 past its end.
+pub fn word_byte(code: u32, i: usize) -> u8
+    ensures { λ r. ⌜ r ≡ getD (spelledAt code) i 0 ⌝ }
+{
+    if 22 < code {
+        return 0;
+    }
+    if word_length(code) <= i {
+        return 0;
+    }
+    let row = (code as usize) * 9;
+    TABLE[row + 2 + i]
+}
+
+// Whether the bytes from `from` up to `to` are the word with this code.
+fn word_is(s: &[u8], from: usize, to: usize, code: u32) -> bool
+    requires { ⌜ (from ≤ to) × (to ≤ length (now s)) ⌝ }
+    ensures { λ r. ⌜ r ≡ sameBytes (spelledAt code) (slice from to (now (s .entry))) ⌝ }
+{
+    if word_length(code) != to - from {
+        return false;
+    }
+    let mut i = from;
+    while i < to {
+        if word_byte(code, i - from) != s[i] {
+            return false;
+        }
+        i += 1;
+    }
+    true
+}
+
+// The code of the word that stands from `from` up to `to`, 23 if none does.
+pub fn find_word(s: &[u8], from: usize, to: usize) -> u32
+    requires { ⌜ (from ≤ to) × (to ≤ length (now s)) ⌝ }
+    ensures { λ r. ⌜ r ≡ codeOf (findOp ops (slice from to (now (s .entry)))) ⌝ }
+{
+    let mut code: u32 = 0;
+    while code < 23 {
+        if word_is(s, from, to, code) {
+            return code;
+        }
+        code += 1;
+    }
+    code
+}
