@@ -1,11 +1,11 @@
 -- An object that opens at most 32 marks: the scan of its text ends only where there is no room, so its walk is one of a text.
-use Prim.Native.Nat.{ℕ, zero, suc, min, max, _+_, _-_, _≤_, _<_}
+use Prim.Native.Nat.{ℕ, suc, _+_, _-_, _≤_, _<_}
 use Prim.Native.Char.{code}
 use mathlib.Core.Path.{_≡_, refl, ap, sym, _∙_}
 use mathlib.Core.Bool.{Bool, true, false, cond, not, _&&_, and-eq-true-iff}
 use mathlib.Core.List.{List, [], _∷_, _++_, append-assoc, append-nil}
 use native.Mathlib.Omega.{arith}
-use borrow.Author.Tests.{eq-eqb, ne-eqb, lt-leb, eqb-true, eqb-false}
+use borrow.Author.Tests.{eq-eqb, ne-eqb, lt-leb, eqb-true}
 use lib.Dec.{leb, eqb}
 use lib.IntN.{ℤ, pos, negsuc}
 use lib.ListN.{length}
@@ -13,7 +13,7 @@ use Rattle.language.specs.Objects.{Obj, int, symbol, seq, Objs, nil, _::_}
 use Rattle.language.specs.Tokens.{isDigit, isUpper}
 use Rattle.language.specs.Judging.{all, isSymbolByte}
 use Rattle.language.specs.Accepted.{IsObj, AreObjs}
-use Rattle.language.specs.Writing.{decimal, writeInteger, writeObj, writeObjs, writeMoreObjs, marksOfObj, marksOfObjs, Scan, on, short, deep, scan, openBehind}
+use Rattle.language.specs.Writing.{decimal, writeInteger, writeObj, writeObjs, writeMoreObjs, marksOfObj, marksOfObjs, short, deep, scan, openBehind}
 use Rattle.language.specs.declared.Val.{Val}
 use Rattle.theorems.proofs.Texts.{all-weaken, digit-range, upper-range, or-cases}
 use Rattle.theorems.proofs.Decimals.{decimal-digits}
@@ -105,6 +105,7 @@ close-later s d r e = let z : d + 1 - 1 ≡ d = omega arith in rw z at (next-lat
 
 mutual
   unfolding writeObj writeObjs writeMoreObjs
+
   obj-later : (x : Obj) (s : List ℕ) (d r : ℕ) → IsObj x → d + marksOfObj x ≤ 32 → scan (writeObj x ++ s) d r ≡ deep → Later s d
   obj-later (int z) s d r i h e = integer-later z s d r e
   obj-later (symbol w) s d r i h e = flat-later w s d r (all-weaken isSymbolByte isFlat symbol-flat w (symbol-bytes w i)) e

@@ -1,17 +1,17 @@
 -- A form's text is what opens it, its parts with what stands behind each, and what ends it; its marks are those of its
 -- parts and of its own object, and one for what it opens itself.
-use Prim.Native.Nat.{ℕ, zero, suc, max, min, _+_, _≤_, _<_}
+use Prim.Native.Nat.{ℕ, suc, max, _+_, _≤_}
 use Prim.Native.Char.{code}
-use mathlib.Core.Path.{_≡_, refl, ap, sym, _∙_}
+use mathlib.Core.Path.{_≡_, refl, ap, _∙_}
 use mathlib.Core.Bool.{Bool, true, false, cond}
 use mathlib.Core.List.{List, [], _∷_, _++_, append-assoc, append-nil}
 use native.Mathlib.Omega.{arith}
 use Rattle.language.specs.Bytes.{bytes}
-use Rattle.language.specs.Forms.{Form, word, name, chain, construct, constant, insert, applyAll, bu, condition, while, Forms, stop, _&_, count}
+use Rattle.language.specs.Forms.{Form, word, name, chain, construct, constant, insert, applyAll, bu, condition, while, Forms, stop, _&_}
 use Rattle.language.specs.Accepted.{IsForm, AreForms}
-use Rattle.language.specs.Writing.{writeObj, writeWord, writeForm, writeParts, writeMoreParts, writeForms, writeMoreForms, isChain, bracketed, bracketMarks, marksOf, marksOfParts, marksOfForms}
+use Rattle.language.specs.Writing.{writeObj, writeWord, writeForm, writeParts, writeForms, isChain, bracketed, bracketMarks, marksOf, marksOfParts, marksOfForms}
 use Rattle.formtable.specs.Standing.{parts}
-use Rattle.program_writer.specs.Layout.{opening, behindPart, behindChain, behindConstruct, behindCondition, behindWhile, ending, partText, partsText, takesPart, partMarks, partsMarks, ownMarks}
+use Rattle.program_writer.specs.Layout.{opening, behindPart, behindChain, behindConstruct, behindCondition, behindWhile, ending, partText, partsText, partMarks, partsMarks, ownMarks}
 use Rattle.program_writer.specs.Walks.{Writable, AllWritable, none-more, one-more}
 
 -- ---- texts

@@ -1,20 +1,19 @@
 -- Laws of walks over forms: a form, a part with its brackets, and parts one after the other.
-use Prim.Native.Nat.{ℕ, zero, suc, _+_, _-_, _*_, _≤_, _<_}
-use mathlib.Core.Path.{_≡_, refl, ap, sym, subst, _∙_}
+use Prim.Native.Nat.{ℕ, _+_, _-_, _*_, _≤_, _<_}
+use mathlib.Core.Path.{_≡_, refl, ap, sym, _∙_}
 use mathlib.Core.Bool.{Bool, true, false, cond, not}
 use mathlib.Core.List.{List, [], _∷_, _++_, append-assoc, append-nil}
 use native.Mathlib.Omega.{arith}
 use lib.ListN.{length, getD}
 use Rattle.language.specs.Bytes.{bytes}
-use Rattle.language.specs.Forms.{Form, word, name, chain, construct, constant, insert, applyAll, bu, condition, while, Forms, stop, _&_, _+&_, count}
+use Rattle.language.specs.Forms.{Form, word, Forms, stop, _&_, _+&_, count}
 use Rattle.language.specs.Writing.{writeForm, isChain, bracketed}
 use Rattle.language.specs.declared.Val.{Val}
 use Rattle.cells.specs.Cells.{valAt}
-use Rattle.cells.proofs.Inversions.{tag-low}
 use Rattle.formtable.specs.Standing.{kindAt, arityAt, wordAt, parts, Row, row-op, row-select, row-selectRight, row-name, row-chain, row-construct, row-insert, row-applyAll, row-condition, row-while, row-constant, row-bu, Stands, no-form, a-form}
 use Rattle.program_writer.specs.declared.Way.{Way}
-use Rattle.program_writer.specs.Layout.{takesPart, takesKind, opening, behindPart, ending, partText, partsText}
-use Rattle.program_writer.specs.Walks.{Wrote, Writable, AllWritable, none-more, one-more, BehindWalked, OpeningWalked, EndingWalked, Went, FormWalked, PartWalked, PartsWalked}
+use Rattle.program_writer.specs.Layout.{takesPart, takesKind, behindPart, partText, partsText}
+use Rattle.program_writer.specs.Walks.{Wrote, Writable, AllWritable, one-more, BehindWalked, OpeningWalked, EndingWalked, Went, FormWalked, PartWalked, PartsWalked}
 use Rattle.program_writer.proofs.Wrote.{wrote-none, wrote-then, wrote-as}
 use Rattle.program_writer.proofs.FormTexts.{form-text, parts-writable}
 use Rattle.program_writer.proofs.Rows.{takes-kind}
@@ -115,8 +114,8 @@ module _ {t C : List ℕ} {k i at m : ℕ} {r : Way} {out out′ : List ℕ} (q 
       record {
         ahead = w .ahead;
         means = λ n e j g f gs c l kind row can s.
-          let x = w .means n e f gs c l can s in
-          record { rest = x .rest; wrote = wrote-as (sym (plain-part g f (not-chain (λ z. h (q ∙ z)) (first-row s)))) (x .wrote) };
+            let x = w .means n e f gs c l can s in
+            record { rest = x .rest; wrote = wrote-as (sym (plain-part g f (not-chain (λ z. h (q ∙ z)) (first-row s)))) (x .wrote) };
       }
 
   pub part-free : {b : Bool} → b ≡ takesKind k → not b ≡ true → FormWalked t C i at r out out′ → PartWalked t C k i at r out out′
@@ -124,8 +123,8 @@ module _ {t C : List ℕ} {k i at m : ℕ} {r : Way} {out out′ : List ℕ} (q 
       record {
         ahead = w .ahead;
         means = λ n e j g f gs c l kind row can s.
-          let x = w .means n e f gs c l can s in
-          record { rest = x .rest; wrote = wrote-as (sym (free-part g f (sym (takes-kind kind row) ∙ sym v ∙ no b h))) (x .wrote) };
+            let x = w .means n e f gs c l can s in
+            record { rest = x .rest; wrote = wrote-as (sym (free-part g f (sym (takes-kind kind row) ∙ sym v ∙ no b h))) (x .wrote) };
       }
     where
       no : (b : Bool) → not b ≡ true → b ≡ false
@@ -138,11 +137,11 @@ module _ {t C : List ℕ} {k i at m p : ℕ} {w : Way} {out out₁ out₂ out₃
       record {
         ahead = x .ahead;
         means = λ n e j g f gs c l kind row can s.
-          let u = x .means n e f gs c l can s in
-          record {
-            rest = u .rest;
-            wrote = wrote-as (sym (bracket-part g f (sym (takes-kind kind row) ∙ sym v ∙ yes′ b y) (is-chain (sym q ∙ h) (first-row s)))) (wrote-then (wrote-then o (u .wrote)) d);
-          };
+            let u = x .means n e f gs c l can s in
+            record {
+              rest = u .rest;
+              wrote = wrote-as (sym (bracket-part g f (sym (takes-kind kind row) ∙ sym v ∙ yes′ b y) (is-chain (sym q ∙ h) (first-row s)))) (wrote-then (wrote-then o (u .wrote)) d);
+            };
       }
     where
       yes′ : (b : Bool) → not b ≡ false → b ≡ true
@@ -195,8 +194,8 @@ module _ {t C : List ℕ} {k arity from start : ℕ} {out₀ : List ℕ} where
             ahead = let u = p .ahead in let v = x .ahead in omega arith;
             len = l₂ ∙ l₁ ∙ p .len;
             means = λ n e j g fs gs c l kind row a can s.
-              let y = p .means n e j g fs gs c l kind row a can s in
-              one n e j g fs gs (y .others) (y .front) c l kind row (y .many) (y .whole) (y .good) (y .stands) (y .wrote);
+                let y = p .means n e j g fs gs c l kind row a can s in
+                one n e j g fs gs (y .others) (y .front) c l kind row (y .many) (y .whole) (y .good) (y .stands) (y .wrote);
           }
         where
           one : (n e j : ℕ) (g : Form) (fs gs os : Forms) (a : List ℕ) → n < 4294967296 → e ≤ 2048 → k ≡ kindAt t j → Row t C n j g → left ≡ count os → partsText g fs ≡ a ++ partsText g os → AllWritable os → Stands t C n i (os +& gs) e → Wrote a start at out₀ out → Left t C n g fs gs e (left - 1) (w .next) start r out₀ out₂

@@ -1,20 +1,19 @@
 -- Laws of the most marks open at once: of objects and their places, of forms and their parts.
-use Prim.Native.Nat.{ℕ, zero, suc, min, max, _+_, _-_, _*_, _%_, _≤_, _<_}
-use mathlib.Core.Path.{_≡_, refl, ap, sym, subst, _∙_}
+use Prim.Native.Nat.{ℕ, suc, min, max, _+_, _-_, _*_, _%_, _≤_, _<_}
+use mathlib.Core.Path.{_≡_, refl, ap, sym, _∙_}
 use mathlib.Core.Bool.{Bool, true, false, cond, not}
-use mathlib.Core.List.{List, [], _∷_, _++_}
+use mathlib.Core.List.{List}
 use native.Mathlib.Omega.{arith}
 use borrow.Author.Tests.{eqb-true, eqb-false}
 use lib.Dec.{eqb}
-use lib.ListN.{length, getD}
-use Rattle.language.specs.Objects.{Obj, int, symbol, seq, Objs, nil, _::_, lengthOf}
-use Rattle.language.specs.Forms.{Form, word, name, chain, construct, constant, insert, applyAll, bu, condition, while, Forms, stop, _&_, _+&_, count}
+use lib.ListN.{getD}
+use Rattle.language.specs.Objects.{Obj, seq, Objs, nil, _::_, lengthOf}
+use Rattle.language.specs.Forms.{Form, word, Forms, stop, _&_, _+&_, count}
 use Rattle.language.specs.Writing.{isChain, bracketMarks, marksOf, marksOfObj, marksOfObjs}
 use Rattle.language.specs.declared.Val.{Val}
 use Rattle.cells.specs.Cells.{Rep, rep-pos, rep-neg, rep-symbol, rep-nil, rep-more, valAt}
 use Rattle.cells.specs.Parts.{Sized, Headed, Tailed}
-use Rattle.cells.proofs.Inversions.{tag-low, of-seq}
-use Rattle.formtable.specs.Standing.{kindAt, wordAt, parts, Row, row-op, row-select, row-selectRight, row-name, row-chain, row-construct, row-insert, row-applyAll, row-condition, row-while, row-constant, row-bu, Stands, no-form, a-form}
+use Rattle.formtable.specs.Standing.{kindAt, wordAt, parts, Row, row-op, row-select, row-selectRight, row-name, row-chain, row-construct, row-insert, row-applyAll, row-condition, row-while, row-constant, row-bu, Stands}
 use Rattle.program_writer.specs.declared.Depth.{Depth}
 use Rattle.program_writer.specs.Layout.{takesPart, takesKind, partMarks, partsMarks, ownMarks}
 use Rattle.program_writer.specs.Depths.{ObjectDepth, PlacesDepth, OwnDepth, Deep, FormDepth, PartDepth, PartsDepth}
@@ -232,8 +231,8 @@ module _ {t C : List ℕ} {k i m : ℕ} {d : Depth} (x : FormDepth t C i d) (q :
       record {
         ahead = x .ahead;
         means = λ n e j g f gs c l kind row s.
-          let u = x .means n e f gs c l s in
-          record { rest = u .rest; marks = rw (plain-marks g f (not-chain (λ z. h (q ∙ z)) (first-row s))) (u .marks) };
+            let u = x .means n e f gs c l s in
+            record { rest = u .rest; marks = rw (plain-marks g f (not-chain (λ z. h (q ∙ z)) (first-row s))) (u .marks) };
       }
 
   pub depth-free : {b : Bool} → b ≡ takesKind k → not b ≡ true → PartDepth t C k i d
@@ -241,8 +240,8 @@ module _ {t C : List ℕ} {k i m : ℕ} {d : Depth} (x : FormDepth t C i d) (q :
       record {
         ahead = x .ahead;
         means = λ n e j g f gs c l kind row s.
-          let u = x .means n e f gs c l s in
-          record { rest = u .rest; marks = rw (free-marks g f (sym (takes-kind kind row) ∙ sym v ∙ no b h)) (u .marks) };
+            let u = x .means n e f gs c l s in
+            record { rest = u .rest; marks = rw (free-marks g f (sym (takes-kind kind row) ∙ sym v ∙ no b h)) (u .marks) };
       }
     where
       no : (b : Bool) → not b ≡ true → b ≡ false
@@ -254,9 +253,9 @@ module _ {t C : List ℕ} {k i m : ℕ} {d : Depth} (x : FormDepth t C i d) (q :
       record {
         ahead = x .ahead;
         means = λ n e j g f gs c l kind row s.
-          let u = x .means n e f gs c l s in
-          let p = u .marks in
-          record { rest = u .rest; marks = rw (bracket-marks g f (sym (takes-kind kind row) ∙ sym v ∙ yes′ b y) (is-chain (sym q ∙ h) (first-row s))) (omega arith) };
+            let u = x .means n e f gs c l s in
+            let p = u .marks in
+            record { rest = u .rest; marks = rw (bracket-marks g f (sym (takes-kind kind row) ∙ sym v ∙ yes′ b y) (is-chain (sym q ∙ h) (first-row s))) (omega arith) };
       }
     where
       yes′ : (b : Bool) → not b ≡ false → b ≡ true
@@ -301,8 +300,8 @@ module _ {t C : List ℕ} {k arity from : ℕ} where
           record {
             ahead = let u = p .ahead in let v = x .ahead in omega arith;
             means = λ n e j g fs gs c l kind row a s.
-              let y = p .means n e j g fs gs c l kind row a s in
-              one n e j (partsMarks g fs) g gs (y .others) c l kind row (y .many) (y .low) (y .stands) (y .marks);
+                let y = p .means n e j g fs gs c l kind row a s in
+                one n e j (partsMarks g fs) g gs (y .others) c l kind row (y .many) (y .low) (y .stands) (y .marks);
           }
         where
           one : (n e j all : ℕ) (g : Form) (gs os : Forms) → n < 4294967296 → e ≤ 2048 → k ≡ kindAt t j → Row t C n j g → left ≡ count os → most ≤ 33 → Stands t C n i (os +& gs) e → min (max most (partsMarks g os)) 33 ≡ min all 33 → DepthNow t C n g gs e (left - 1) (d .next) more all

@@ -1,24 +1,22 @@
 -- Laws of whole programs: a definition, the definitions one after the other, what is measured and what is written.
-use Prim.Native.Nat.{ℕ, zero, suc, min, max, _+_, _-_, _*_, _≤_, _<_}
+use Prim.Native.Nat.{ℕ, min, max, _+_, _≤_, _<_}
 use Prim.Native.Char.{code}
 use mathlib.Core.Path.{_≡_, refl, ap, sym, _∙_}
 use mathlib.Core.List.{List, [], _∷_, _++_, append-assoc, append-nil}
 use native.Mathlib.Omega.{arith}
-use lib.ListN.{length, take, drop}
-use Rattle.language.specs.Forms.{Form, Forms, stop, _&_, Def, Prog}
-use Rattle.language.specs.Accepted.{IsName, AreDefinitions}
+use lib.ListN.{length, drop}
+use Rattle.language.specs.Forms.{Def, Prog}
+use Rattle.language.specs.Accepted.{AreDefinitions}
 use Rattle.language.specs.Packing.{packed}
 use Rattle.language.specs.Writing.{writeForm, writeProgram, marksOf, marksOfProgram}
 use Rattle.tables.specs.Tables.{put}
 use Rattle.formtable.specs.Standing.{Stands, bodies}
 use Rattle.program_writer.specs.declared.Way.{Way}
 use Rattle.program_writer.specs.declared.Depth.{Depth}
-use Rattle.program_writer.specs.declared.Measured.{Measured}
-use Rattle.program_writer.specs.declared.Written.{Written}
 use Rattle.program_writer.specs.declared.Written.the-variants as W
-use Rattle.program_writer.specs.Walks.{Wrote, NameWalked, Writable, Went, FormWalked}
+use Rattle.program_writer.specs.Walks.{Wrote, NameWalked, Writable, FormWalked}
 use Rattle.program_writer.specs.Depths.{FormDepth}
-use Rattle.program_writer.specs.Programs.{nameAt, Named, no-name, a-name, Holds, DefinitionWalked, ProgramWalked, ProgramDepth, ProgramMeasured, Outcome, done, no-room, ProgramWritten}
+use Rattle.program_writer.specs.Programs.{nameAt, Named, a-name, Holds, DefinitionWalked, ProgramWalked, ProgramDepth, TextMeasured, Outcome, done, no-room, ProgramWritten}
 use Rattle.program_writer.proofs.Wrote.{wrote-none, wrote-then, wrote-as}
 use Rattle.program_writer.proofs.MarkWalks.{turn}
 
@@ -34,11 +32,11 @@ module _ {t C D : List ℕ} {k i at v p q z : ℕ} {w : Way} {out out₁ out₂ 
   definition-done e n a f b =
       record {
         means = λ m l d gs c h name is can s.
-          let u = f .means m l (d .body) gs c h can s in
-          record {
-            rest = u .rest;
-            wrote = wrote-as (four (d .called) (61 ∷ []) (writeForm (d .body)) (59 ∷ [])) (wrote-then (wrote-then (wrote-then (n .means (d .called) is (e ∙ name)) a) (u .wrote)) b);
-          };
+            let u = f .means m l (d .body) gs c h can s in
+            record {
+              rest = u .rest;
+              wrote = wrote-as (four (d .called) (61 ∷ []) (writeForm (d .body)) (59 ∷ [])) (wrote-then (wrote-then (wrote-then (n .means (d .called) is (e ∙ name)) a) (u .wrote)) b);
+            };
       }
 
 -- ---- definitions one after the other
@@ -76,8 +74,8 @@ module _ {t C D : List ℕ} {defs : ℕ} {out₀ : List ℕ} where
       record {
         len = refl;
         means = λ n e P h m.
-          let l = h .many in
-          record { front = []; others = P; whole = refl; many = omega arith; stands = h .stands; names = h .names; good = h .good; few = m; wrote = wrote-none };
+            let l = h .many in
+            record { front = []; others = P; whole = refl; many = omega arith; stands = h .stands; names = h .names; good = h .good; few = m; wrote = wrote-none };
       }
 
   module _ {k i at : ℕ} {out : List ℕ} where
@@ -149,47 +147,40 @@ module _ {t C : List ℕ} {defs : ℕ} where
             record { others = os; many = omega arith; low = omega arith; stands = u .rest; marks = turn most (d .marks) more (marksOf (a .body)) 33 (marksOfProgram os) m w ∙ v }
 
 -- ---- the calls
-module _ {t C D : List ℕ} {defs l : ℕ} {none none′ : List ℕ} (w : ProgramWalked t C D defs l none none′) where
-  module _ {m : ℕ} (d : ProgramDepth t C defs m) where
-    pub measure-long : 16384 < l → ProgramMeasured t C D defs (record { length = 16385; marks = m })
-    measure-long h =
-        record {
-          length = λ n e P a f. let x = w .means n e P a f .place in omega arith;
-          marks = λ n e P a. d .means n e P (a .cells) (a .forms) (a .many) (a .stands);
-        }
+module _ {t C D : List ℕ} {defs l : ℕ} where
+  module _ {none none′ : List ℕ} (w : ProgramWalked t C D defs l none none′) where
+    pub text-long : 16384 < l → TextMeasured t C D defs 16385
+    text-long h = record { means = λ n e P a f. let x = w .means n e P a f .place in omega arith }
 
-    pub measure-short : l ≤ 16384 → ProgramMeasured t C D defs (record { length = l; marks = m })
-    measure-short h =
-        record {
-          length = λ n e P a f. let x = w .means n e P a f .place in omega arith;
-          marks = λ n e P a. d .means n e P (a .cells) (a .forms) (a .many) (a .stands);
-        }
+    pub text-short : l ≤ 16384 → TextMeasured t C D defs l
+    text-short h = record { means = λ n e P a f. let x = w .means n e P a f .place in omega arith }
 
-  module _ {out : List ℕ} where
-    pub write-long : 16384 < l → ProgramWritten t C D defs W.Short out out
-    write-long h =
-        record {
-          fits = λ k q. let z : _≡_ {A = ℕ} 0 1 = cc in absurd (omega arith);
-          means = λ n e P a f. let x = w .means n e P a f .place in no-room (omega arith) refl refl;
-        }
+  module _ (w : TextMeasured t C D defs l) where
+    module _ {out : List ℕ} where
+      pub write-long : 16384 < l → ProgramWritten t C D defs W.Short out out
+      write-long h =
+          record {
+            fits = λ k q. let z : _≡_ {A = ℕ} 0 1 = cc in absurd (omega arith);
+            means = λ n e P a f. let x = w .means n e P a f in no-room (omega arith) refl refl;
+          }
 
-    pub write-short : l ≤ 16384 → length out < l → ProgramWritten t C D defs W.Short out out
-    write-short b h =
-        record {
-          fits = λ k q. let z : _≡_ {A = ℕ} 0 1 = cc in absurd (omega arith);
-          means = λ n e P a f. let x = w .means n e P a f .place in no-room (omega arith) refl refl;
-        }
+      pub write-short : l ≤ 16384 → length out < l → ProgramWritten t C D defs W.Short out out
+      write-short b h =
+          record {
+            fits = λ k q. let z : _≡_ {A = ℕ} 0 1 = cc in absurd (omega arith);
+            means = λ n e P a f. let x = w .means n e P a f in no-room (omega arith) refl refl;
+          }
 
-    pub write-done : {r : ℕ} {out′ : List ℕ} → l ≤ 16384 → l ≤ length out → ProgramWalked t C D defs r out out′ → ProgramWritten t C D defs (W.Done l) out out′
-    unfolding put
-    write-done {r} {out′} b h v =
-        record {
-          fits = λ k q. let z : k ≡ l = cc in omega arith;
-          means = λ n e P a f. whole (writeProgram P) (w .means n e P a f .place) (v .means n e P a f);
-        }
-      where
-        whole : (text : List ℕ) → min l 16385 ≡ min (0 + length text) 16385 → Wrote text 0 r out out′ → Outcome text (W.Done l) out out′
-        whole text x y =
-            let e : l ≡ length text = omega arith in
-            let z : 0 + length text ≡ length text = omega arith in
-            done (omega arith) (ap (λ (k : ℕ). W.Done k) e) (y .stands (omega arith) (omega arith) ∙ ap (λ (k : ℕ). text ++ drop k out) z)
+      pub write-done : {r : ℕ} {out′ : List ℕ} → l ≤ 16384 → l ≤ length out → ProgramWalked t C D defs r out out′ → ProgramWritten t C D defs (W.Done l) out out′
+      unfolding put
+      write-done {r} {out′} b h v =
+          record {
+            fits = λ k q. let z : k ≡ l = cc in omega arith;
+            means = λ n e P a f. whole (writeProgram P) (w .means n e P a f) (v .means n e P a f);
+          }
+        where
+          whole : (text : List ℕ) → l ≡ min (length text) 16385 → Wrote text 0 r out out′ → Outcome text (W.Done l) out out′
+          whole text x y =
+              let e : l ≡ length text = omega arith in
+              let z : 0 + length text ≡ length text = omega arith in
+              done (omega arith) (ap (λ (k : ℕ). W.Done k) e) (y .stands (omega arith) (omega arith) ∙ ap (λ (k : ℕ). text ++ drop k out) z)

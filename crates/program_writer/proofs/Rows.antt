@@ -1,24 +1,21 @@
 -- What a record's kind and word say of the form that it is the record of: its marks, its words and names, its object.
-use Prim.Native.Nat.{ℕ, zero, suc, _+_, _*_, _%_, _≤_, _<_}
-use Prim.Native.Char.{code}
+use Prim.Native.Nat.{ℕ, zero, suc, _+_, _%_, _≤_, _<_}
 use mathlib.Core.Path.{_≡_, refl, ap, ap₂, sym, subst, _∙_}
-use mathlib.Core.Bool.{Bool, true, false, cond}
-use mathlib.Core.List.{List, [], _∷_, _++_}
+use mathlib.Core.Bool.{true, cond}
+use mathlib.Core.List.{List, [], _∷_}
 use native.Mathlib.Omega.{arith}
-use borrow.Author.Tests.{eq-eqb, ne-eqb, le-leb, lt-leb}
-use lib.Dec.{leb, eqb}
+use borrow.Author.Tests.{ne-eqb, le-leb, lt-leb}
+use lib.Dec.{eqb}
 use lib.IntN.{pos}
-use lib.ListN.{length, take, getD}
+use lib.ListN.{length, take}
 use lib.Seq.{take-at}
 use Rattle.language.specs.Bytes.{bytes}
 use Rattle.language.specs.Objects.{Obj, int}
-use Rattle.language.specs.Words.{Op, entry}
 use Rattle.language.specs.Judging.{all, isNameByte}
-use Rattle.language.specs.Tokens.{isLower}
-use Rattle.language.specs.Forms.{Form, word, name, chain, construct, constant, insert, applyAll, bu, condition, while, Forms, stop, _&_, select, selectRight, op}
+use Rattle.language.specs.Forms.{Form, word, chain, construct, constant, insert, bu, condition, while}
 use Rattle.language.specs.Accepted.{IsName}
 use Rattle.language.specs.Packing.{packed}
-use Rattle.language.specs.Writing.{writeObj, writeInteger, writeWord, decimal, marksOfObj}
+use Rattle.language.specs.Writing.{writeObj, writeInteger, writeWord, decimal}
 use Rattle.language.specs.declared.Val.{Val}
 use Rattle.cells.specs.Cells.{Rep, rep-pos}
 use Rattle.cells.proofs.Inversions.{tag-low}
@@ -231,9 +228,9 @@ module _ {v at r n : ℕ} {old new out out′ : List ℕ} where
 word-text : {t C : List ℕ} {n i k v : ℕ} {f : Form} → k ≡ 1 → k ≡ kindAt t i → v ≡ wordAt t i → Row t C n i f → spelledAt (v % 4294967296) ≡ opening f
 unfolding opening writeWord
 word-text {v = v} h e w (row-op {o = o} q a z) =
-      let l = code-below o in
-      let y : v % 4294967296 ≡ opCode o = omega arith in
-      ap spelledAt y ∙ spelled-of o
+    let l = code-below o in
+    let y : v % 4294967296 ≡ opCode o = omega arith in
+    ap spelledAt y ∙ spelled-of o
 word-text h e w (row-select q a z) = absurd (omega arith)
 word-text h e w (row-selectRight q a z) = absurd (omega arith)
 word-text h e w (row-name q a z) = absurd (omega arith)

@@ -3,7 +3,7 @@ use Prim.Native.Nat.{ℕ, min, _≤_, _<_}
 use mathlib.Core.Path.{_≡_}
 use mathlib.Core.List.{List}
 use Rattle.language.specs.Objects.{Obj, seq, Objs}
-use Rattle.language.specs.Forms.{Form, Forms, stop, _&_, _+&_, count}
+use Rattle.language.specs.Forms.{Form, Forms, _&_, _+&_, count}
 use Rattle.language.specs.Writing.{marksOf, marksOfObj, marksOfObjs}
 use Rattle.language.specs.declared.Val.{Val}
 use Rattle.cells.specs.Cells.{Rep}

@@ -1,11 +1,9 @@
 -- A form's text from the left: what opens it, each part with what stands behind it, what ends it. Its marks the same way.
 use Prim.Native.Nat.{ℕ, zero, suc, max}
-use Prim.Native.Char.{code}
 use mathlib.Core.Bool.{Bool, true, false, cond}
-use mathlib.Core.List.{List, [], _∷_, _++_}
+use mathlib.Core.List.{List, [], _++_}
 use lib.Dec.{leb, eqb}
 use Rattle.language.specs.Bytes.{bytes}
-use Rattle.language.specs.Objects.{Obj}
 use Rattle.language.specs.Forms.{Form, word, name, chain, construct, constant, insert, applyAll, bu, condition, while, Forms, stop, _&_, count}
 use Rattle.language.specs.Writing.{writeObj, writeWord, writeForm, bracketed, marksOf, marksOfObj, bracketMarks}
 

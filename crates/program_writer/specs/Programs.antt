@@ -4,7 +4,7 @@ use Prim.Native.Char.{code}
 use mathlib.Core.Path.{_≡_}
 use mathlib.Core.List.{List, [], _∷_, _++_}
 use lib.ListN.{length, drop, getD}
-use Rattle.language.specs.Forms.{Forms, stop, _&_, Def, Prog}
+use Rattle.language.specs.Forms.{Forms, _&_, Def, Prog}
 use Rattle.language.specs.Accepted.{IsName, AreDefinitions}
 use Rattle.language.specs.Packing.{packed}
 use Rattle.language.specs.Writing.{writeForm, writeProgram, marksOfProgram}
@@ -42,15 +42,18 @@ pub record DefinitionWalked (t C D : List ℕ) (k i at : ℕ) (r : Way) (out out
 pub record ProgramWalked (t C D : List ℕ) (defs r : ℕ) (out out′ : List ℕ) : Type 0 where
   pub means : (n e : ℕ) (P : Prog) → Holds t C D defs n e P → marksOfProgram P ≤ 32 → Wrote (writeProgram P) 0 r out out′
 
+pub record TextMeasured (t C D : List ℕ) (defs r : ℕ) : Type 0 where
+  pub means : (n e : ℕ) (P : Prog) → Holds t C D defs n e P → marksOfProgram P ≤ 32 → r ≡ min (length (writeProgram P)) 16385
+
 -- the marks need no name
 pub record ProgramDepth (t C : List ℕ) (defs r : ℕ) : Type 0 where
   pub means : (n e : ℕ) (P : Prog) → n < 4294967296 → e ≤ 2048 → length P ≡ defs → Stands t C n 0 (bodies P) e → r ≡ min (marksOfProgram P) 33
 
 -- ---- the calls
--- The length of the text up to 16,385, where no 33rd mark opens; the marks up to 33.
+-- The length of the text up to 16,385, where no 33rd mark opens; the marks up to 33, for which the names don't matter.
 pub record ProgramMeasured (t C D : List ℕ) (defs : ℕ) (r : Measured) : Type 0 where
-  pub length : (n e : ℕ) (P : Prog) → Holds t C D defs n e P → marksOfProgram P ≤ 32 → r .length ≡ min (length (writeProgram P)) 16385
-  pub marks : (n e : ℕ) (P : Prog) → Holds t C D defs n e P → r .marks ≡ min (marksOfProgram P) 33
+  pub size : (n e : ℕ) (P : Prog) → Holds t C D defs n e P → marksOfProgram P ≤ 32 → r .length ≡ min (length (writeProgram P)) 16385
+  pub marks : (n e : ℕ) (P : Prog) → n < 4294967296 → e ≤ 2048 → length P ≡ defs → Stands t C n 0 (bodies P) e → r .marks ≡ min (marksOfProgram P) 33
 
 -- All of the text stands in front and the rest of the output is as it was; or nothing has changed.
 pub data Outcome (text : List ℕ) (r : Written) (out out′ : List ℕ) : Type 0 where

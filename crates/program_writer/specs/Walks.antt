@@ -2,7 +2,7 @@
 use Prim.Native.Nat.{ℕ, min, _+_, _-_, _≤_, _<_}
 use Prim.Native.Char.{code}
 use mathlib.Core.Path.{_≡_}
-use mathlib.Core.List.{List, [], _∷_, _++_}
+use mathlib.Core.List.{List}
 use lib.ListN.{length}
 use Rattle.language.specs.Objects.{Obj}
 use Rattle.language.specs.Forms.{Form, Forms, stop, _&_, _+&_, count}

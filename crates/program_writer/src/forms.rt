@@ -2,9 +2,8 @@
 ghost use mathlib.Core.Path.{_≡_};
 ghost use Rattle.program_writer.specs.Layout.{takesKind};
 ghost use Rattle.program_writer.specs.Walks.{MarkBehind, BehindWalked, OpeningMark, PlainWalked, OpeningWalked, EndingWalked, FormWalked, PartWalked, PartsWalked};
-
-use super::texts;
 use super::Way;
+use super::texts;
 use language::Val;
 
 // Whether a chain that is a part of a form of this kind stands in brackets: in a chain, and behind `/`, `@` and `{`.
@@ -112,7 +111,15 @@ fn walk_opening(c: &[u32], row: Val, out: &mut [u8], at: usize) -> usize
     let next = texts::walk_mark(out, at, b);
     if b == b'%' {
         let word = row.word;
-        return texts::walk_constant(c, Val { tag: kind % 4, word }, out, next);
+        return texts::walk_constant(
+            c,
+            Val {
+                tag: kind % 4,
+                word,
+            },
+            out,
+            next,
+        );
     }
     next
 }
@@ -126,7 +133,15 @@ fn walk_ending(c: &[u32], row: Val, out: &mut [u8], at: usize) -> usize
     if kind < 16 {
         return at;
     }
-    let next = texts::walk_constant(c, Val { tag: kind % 4, word }, out, at);
+    let next = texts::walk_constant(
+        c,
+        Val {
+            tag: kind % 4,
+            word,
+        },
+        out,
+        at,
+    );
     texts::walk_mark(out, next, b'}')
 }
 
@@ -142,11 +157,22 @@ pub fn walk_form(t: &[u32], c: &[u32], i: u32, out: &mut [u8], at: usize) -> Way
     let first = walk_opening(c, row, out, at);
     let w = walk_parts(t, c, row.tag, arity, i + 1, out, first);
     let place = walk_ending(c, row, out, w.place);
-    Way { next: w.next, place }
+    Way {
+        next: w.next,
+        place,
+    }
 }
 
 // Walks over as many parts as `arity` says of a form of this kind, with what stands behind each.
-fn walk_parts(t: &[u32], c: &[u32], kind: u32, arity: u32, from: u32, out: &mut [u8], start: usize) -> Way
+fn walk_parts(
+    t: &[u32],
+    c: &[u32],
+    kind: u32,
+    arity: u32,
+    from: u32,
+    out: &mut [u8],
+    start: usize,
+) -> Way
     ensures { λ r. ⌜ PartsWalked (now (t .entry)) (now (c .entry)) kind arity from start r (now (out .entry)) (now (out .exit)) ⌝ }
 {
     let mut left = arity;
@@ -174,5 +200,8 @@ fn walk_part(t: &[u32], c: &[u32], kind: u32, i: u32, out: &mut [u8], at: usize)
     let first = texts::walk_mark(out, at, b'(');
     let w = walk_form(t, c, i, out, first);
     let place = texts::walk_mark(out, w.place, b')');
-    Way { next: w.next, place }
+    Way {
+        next: w.next,
+        place,
+    }
 }

@@ -2,9 +2,8 @@
 ghost use mathlib.Core.Path.{_≡_};
 ghost use Prim.Native.Nat.{suc, min, max};
 ghost use Rattle.program_writer.specs.Depths.{ObjectDepth, PlacesDepth, OwnDepth, FormDepth, PartDepth, PartsDepth};
-
-use super::forms;
 use super::Depth;
+use super::forms;
 use language::Val;
 
 // The larger of two.
@@ -62,7 +61,14 @@ fn own_marks(c: &[u32], row: Val) -> u32
     if kind < 12 {
         return 0;
     }
-    object_marks(c, Val { tag: kind % 4, word }, 33)
+    object_marks(
+        c,
+        Val {
+            tag: kind % 4,
+            word,
+        },
+        33,
+    )
 }
 
 // The marks of the form at record i.
@@ -77,9 +83,15 @@ pub fn form_marks(t: &[u32], c: &[u32], i: u32) -> Depth
     let d = parts_marks(t, c, row.tag, arity, i + 1);
     let inside = larger(d.marks, own_marks(c, row));
     if row.tag < 6 {
-        return Depth { next: d.next, marks: inside };
+        return Depth {
+            next: d.next,
+            marks: inside,
+        };
     }
-    Depth { next: d.next, marks: one_more(inside) }
+    Depth {
+        next: d.next,
+        marks: one_more(inside),
+    }
 }
 
 // The most marks of as many parts as `arity` says of a form of this kind.
@@ -95,7 +107,10 @@ fn parts_marks(t: &[u32], c: &[u32], kind: u32, arity: u32, from: u32) -> Depth
         i = d.next;
         most = larger(most, d.marks);
     }
-    Depth { next: i, marks: most }
+    Depth {
+        next: i,
+        marks: most,
+    }
 }
 
 // The marks of the part at record i of a form of this kind, with its brackets where it has them.
@@ -109,5 +124,8 @@ fn part_marks(t: &[u32], c: &[u32], kind: u32, i: u32) -> Depth
     if !forms::takes_part(kind) {
         return d;
     }
-    Depth { next: d.next, marks: one_more(d.marks) }
+    Depth {
+        next: d.next,
+        marks: one_more(d.marks),
+    }
 }

@@ -6,7 +6,6 @@ ghost use Prim.Native.Nat.{_≤_};
 ghost use lib.ListN.{length, take};
 ghost use Rattle.lexer.specs.Vocabulary.{spelledAt};
 ghost use Rattle.program_writer.specs.Walks.{Behind, Wrote, NameWalked, ConstantWalked};
-
 use language::Val;
 
 // The place n bytes behind `at`; past 16,384 it only says so.
