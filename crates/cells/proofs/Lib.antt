@@ -1,3 +1,8 @@
 pub mod Reps
 pub mod Places
 pub mod Packing
+pub mod Inversions
+pub mod Encoded
+pub mod Lengths
+pub mod Compared
+pub mod Ring

@@ -6,6 +6,7 @@ use native.Mathlib.Omega.{arith}
 use native.Mathlib.Numerals.{add-one}
 use lib.ListN.{getD, length}
 use Rattle.language.specs.Objects.{Obj, seq, Objs, nil, _::_, lengthOf}
+use Rattle.language.specs.Meanings.{gives, nth}
 use Rattle.language.specs.declared.Val.{Val}
 use Rattle.tables.specs.Tables.{field}
 use Rattle.cells.specs.Cells.{Rep, rep-nil, rep-more, valAt, nextAt, sequenceVal, Same, cellPut}
@@ -49,6 +50,13 @@ unfolding dropObjs nthObj
 drop-first nil k h = absurd (omega arith)
 drop-first (x :: xs) zero h = refl
 drop-first (x :: xs) (suc k) h = drop-first xs k (omega arith)
+
+-- what a selector answers
+pub nth-gives : (xs : Objs) (k : ℕ) → k < lengthOf xs → nth k xs ≡ gives 0 0 (nthObj xs k)
+unfolding nthObj
+nth-gives nil k h = absurd (omega arith)
+nth-gives (x :: xs) zero h = refl
+nth-gives (x :: xs) (suc k) h = nth-gives xs k (omega arith)
 
 -- s stands for what follows the first q places
 pub record Walking (C : List ℕ) (v : Val) (k : ℕ) (s : Val) (q : ℕ) : Type 0 where
@@ -145,7 +153,9 @@ gather-last z xs [] e f r w = rw (← w, ← f) r
 gather-last z xs (x ∷ rest) e f r w = absurd (omega arith)
 
 pub gather-end : {C₀ W : List ℕ} {top n p : ℕ} {C : List ℕ} {left link free : ℕ} {r : Val} → left ≤ 0 → Gathering C₀ W top n p C left link free → r ≡ sequenceVal link n → Gathered C₀ W top n p r C
-gather-end {n = n} {p = p} {link = link} z g e = record { means = λ xs f h u w.
-    let l = g .means xs f h w in
-    let s : lengthOf (l .done) ≡ n = omega (arith, l .size) in
-    (rw e (gather-last (p + n) xs (l .rest) (omega (arith, l .long)) (omega arith) (rw s at (l .rep)) (l .whole)), l .same) }
+gather-end {n = n} {p = p} {link = link} z g e = record {
+  means = λ xs f h u w.
+      let l = g .means xs f h w in
+      let s : lengthOf (l .done) ≡ n = omega (arith, l .size) in
+      (rw e (gather-last (p + n) xs (l .rest) (omega (arith, l .long)) (omega arith) (rw s at (l .rep)) (l .whole)), l .same);
+}

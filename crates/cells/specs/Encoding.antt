@@ -31,4 +31,4 @@ unfoldable mutual
   pub placesFrom : ℕ → Objs → List ℕ
   placesFrom c nil = []
   placesFrom c (x :: xs) =
-    cell (valOf (c + 1) x) (linkOf (c + 1 + cellsOf x) xs) ++ (cellsFrom (c + 1) x ++ placesFrom (c + 1 + cellsOf x) xs)
+      cell (valOf (c + 1) x) (linkOf (c + 1 + cellsOf x) xs) ++ (cellsFrom (c + 1) x ++ placesFrom (c + 1 + cellsOf x) xs)

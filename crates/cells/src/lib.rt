@@ -4,7 +4,8 @@ ghost use Prim.Native.Nat.{_%_};
 ghost use lib.Dec.{eqb};
 ghost use Rattle.cells.specs.Cells.{valAt, sequenceVal, cellPut, free};
 ghost use Rattle.cells.specs.Parts.{firstOf, Sized, Headed, Tailed, Nth, Paired, heldAt, holdAt, Gathered};
-use language::{Meter, Val};
+use language::Meter;
+use language::Val;
 
 // The value in cell p.
 pub fn value_at(c: &[u32], p: u32) -> Val

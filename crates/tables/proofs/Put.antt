@@ -29,8 +29,13 @@ module _ (t : List ℕ) (i : ℕ) (a b : List ℕ) (room : i + length a + length
   unfolding put
   put-before =
       let l = length-take-le (i + length a) t (omega arith) in
-      rw (append-assoc (take (i + length a) t) b, take-append-le i (take (i + length a) t) (b ++ drop (i + length a + length b) t) (omega arith),
-      take-take i (i + length a) t (omega arith), drop-at (take (i + length a) t) (b ++ drop (i + length a + length b) t) (i + length a) l, both)
+      rw (
+        append-assoc (take (i + length a) t) b,
+        take-append-le i (take (i + length a) t) (b ++ drop (i + length a + length b) t) (omega arith),
+        take-take i (i + length a) t (omega arith),
+        drop-at (take (i + length a) t) (b ++ drop (i + length a + length b) t) (i + length a) l,
+        both,
+      )
       (simp append-assoc)
 
 pub put-none : (t : List ℕ) (i : ℕ) → put t i [] ≡ t

@@ -1,13 +1,9 @@
+-- `cells::gather` makes the sequence of what waits, from its last object on: the invariant is `Gathering`.
 use borrow.Author.Needs.{needs}
 use native.Mathlib.Omega.{arith}
 use Rattle.cells.proofs.Places.{Gathering, gather-far, gather-start, gather-next, gather-end}
 use Rattle.cells.proofs.gather.Statement.{statement}
 use Rattle.cells.proofs.gather.Tie as tie
-use Rattle.cells.proofs.gather.Reads as reads
-use Rattle.cells.proofs.gather.Lts as lts
-use Rattle.cells.proofs.held.Reads as held-reads
-use Rattle.cells.proofs.put_cell.Reads as put-cell-reads
-use Rattle.cells.proofs.sequence.Reads as sequence-reads
 
 abbrev Inv-loop : tie.InvT-loop
 Inv-loop c₀ w top n p left₀ link₀ free₀ c left link free = Gathering c₀ w top n p c left link free
@@ -15,63 +11,48 @@ Inv-loop c₀ w top n p left₀ link₀ free₀ c left link free = Gathering c�
 abbrev μ-loop : tie.MeasureT-loop
 μ-loop c₀ w top n p left₀ link₀ free₀ c left link free = left
 
--- if 4294967295 - p < n {
 sub-if1 : tie.Need-sub-if1 Inv-loop μ-loop
 sub-if1 c = search needs
 
--- return sequence(0, 0);
 sequence-requires : tie.Need-sequence-requires Inv-loop μ-loop
 sequence-requires c κs = search needs
 
--- return sequence(0, 0);
 returns : tie.Need-returns Inv-loop μ-loop
 returns c = search gather-far
 
--- while 0 < left {
 loop-holds : tie.Need-loop-holds Inv-loop μ-loop
 loop-holds c = gather-start (omega arith) (omega arith)
 
--- left -= 1;
 sub-left : tie.Need-sub-left Inv-loop μ-loop
 sub-left c = search needs
 
--- let v = held(w, top as usize + left as usize);
 cast-held : tie.Need-cast-held Inv-loop μ-loop
 cast-held c = search needs
 
--- let v = held(w, top as usize + left as usize);
 add-held : tie.Need-add-held Inv-loop μ-loop
 add-held c = search needs
 
--- let v = held(w, top as usize + left as usize);
 held-requires : tie.Need-held-requires Inv-loop μ-loop
 held-requires c κs = search needs
 
--- put_cell(c, free, v, link);
 put-cell-requires : tie.Need-put-cell-requires Inv-loop μ-loop
 put-cell-requires c κs = search needs
 
--- free += 1;
 add-free : tie.Need-add-free Inv-loop μ-loop
 add-free c = search needs
 
--- while 0 < left {
 loop-less : tie.Need-loop-less Inv-loop μ-loop
 loop-less c = search needs
 
--- while 0 < left {
 loop-again : tie.Need-loop-again Inv-loop μ-loop
 loop-again c = search gather-next
 
--- sequence(link, n)
 sequence-requires-2 : tie.Need-sequence-requires-2 Inv-loop μ-loop
 sequence-requires-2 c κs = search needs
 
--- pub fn gather(c: &mut [u32], w: &[u32], top: u32, n: u32, p: u32) -> Val
 same-length : tie.Need-same-length Inv-loop μ-loop
 same-length c = c .before .before .loop .inv .len
 
--- pub fn gather(c: &mut [u32], w: &[u32], top: u32, n: u32, p: u32) -> Val
 returns-2 : tie.Need-returns-2 Inv-loop μ-loop
 returns-2 c = search gather-end
 

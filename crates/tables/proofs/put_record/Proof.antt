@@ -1,3 +1,4 @@
+-- `tables::put_record` writes four numbers where there is room, else none.
 use native.Mathlib.Omega.{arith}
 use borrow.Author.Needs.{needs}
 use lib.ListN.{length-set}
@@ -5,66 +6,49 @@ use mathlib.Core.Path.{sym}
 use Rattle.tables.proofs.Records.{four-are, record-none}
 use Rattle.tables.proofs.put_record.Statement.{statement}
 use Rattle.tables.proofs.put_record.Tie as tie
-use Rattle.tables.proofs.put_record.Reads as reads
-use Rattle.tables.proofs.put_record.Lts as lts
 
--- let j = i * 4;
 mul-j : tie.Need-mul-j
 mul-j c = search needs
 
--- t[j] = a;
 mul-t : tie.Need-mul-t
 mul-t c = search needs
 
--- t[j] = a;
 slice-write-t : tie.Need-slice-write-t
 slice-write-t c = search needs
 
--- t[j + 1] = b;
 add-t : tie.Need-add-t
 add-t c = search needs
 
--- t[j + 1] = b;
 mul-t-2 : tie.Need-mul-t-2
 mul-t-2 c = search needs
 
--- t[j + 1] = b;
 slice-write-t-2 : tie.Need-slice-write-t-2
 slice-write-t-2 c = simp length-set (omega arith)
 
--- t[j + 2] = c;
 add-t-2 : tie.Need-add-t-2
 add-t-2 c = search needs
 
--- t[j + 2] = c;
 mul-t-3 : tie.Need-mul-t-3
 mul-t-3 c = search needs
 
--- t[j + 2] = c;
 slice-write-t-3 : tie.Need-slice-write-t-3
 slice-write-t-3 c = simp length-set (omega arith)
 
--- t[j + 3] = d;
 add-t-3 : tie.Need-add-t-3
 add-t-3 c = search needs
 
--- t[j + 3] = d;
 mul-t-4 : tie.Need-mul-t-4
 mul-t-4 c = search needs
 
--- t[j + 3] = d;
 slice-write-t-4 : tie.Need-slice-write-t-4
 slice-write-t-4 c = simp length-set (omega arith)
 
--- pub fn put_record(t: &mut [u32], i: usize, a: u32, b: u32, c: u32, d: u32)
 same-length : tie.Need-same-length
 same-length c = search needs
 
--- pub fn put_record(t: &mut [u32], i: usize, a: u32, b: u32, c: u32, d: u32)
 returns : tie.Need-returns
 returns c = four-are _ _ _ _ _ _ (omega arith)
 
--- pub fn put_record(t: &mut [u32], i: usize, a: u32, b: u32, c: u32, d: u32)
 returns-2 : tie.Need-returns-2
 returns-2 c = sym (record-none _ _ _ _ _ _ (omega arith))
 

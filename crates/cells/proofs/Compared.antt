@@ -1,0 +1,108 @@
+-- Two values of integers or of symbols are equal exactly if the objects are; T and F are known by their values.
+use Prim.Native.Nat.{ℕ, zero, suc, _+_, _*_, _≤_, _<_}
+use mathlib.Core.Path.{_≡_, refl, sym, ap, ap₂, subst, _∙_}
+use mathlib.Core.Bool.{Bool, true, false, _&&_}
+use mathlib.Core.List.{List, [], _∷_}
+use native.Mathlib.Omega.{arith}
+use lib.Dec.{eqb}
+use lib.IntN.{ℤ, pos, negsuc}
+use borrow.Author.Tests.{eqb-true, eqb-false, eq-eqb, ne-eqb}
+use Rattle.language.specs.Bytes.{bytes, sameBytes}
+use Rattle.language.specs.Objects.{Obj, int, symbol, seq, Objs, nil, _::_, symbolT, symbolF, truth, truthOf, isT, isF, neither}
+use Rattle.language.specs.Meanings.{sameInt}
+use Rattle.language.specs.Accepted.{IsSymbol}
+use Rattle.language.specs.Packing.{packed, letterOf}
+use Rattle.language.specs.declared.Val.{Val}
+use Rattle.cells.specs.Cells.{Rep, rep-pos, rep-neg, rep-symbol, rep-nil, rep-more}
+use Rattle.cells.proofs.Packing.{symbols-same}
+
+-- ---- bytes
+pub same-bytes-is : (a b : List ℕ) → sameBytes a b ≡ true → a ≡ b
+same-bytes-is [] [] e = refl
+same-bytes-is [] (y ∷ b) e = absurd (let z : _≡_ {A = ℕ} 0 1 = cc in omega arith)
+same-bytes-is (x ∷ a) [] e = absurd (let z : _≡_ {A = ℕ} 0 1 = cc in omega arith)
+same-bytes-is (x ∷ a) (y ∷ b) e = go (eqb x y) refl e (same-bytes-is a b)
+  where
+    go : (t : Bool) → eqb x y ≡ t → (t && sameBytes a b) ≡ true → (sameBytes a b ≡ true → a ≡ b) → Path (List ℕ) (x ∷ a) (y ∷ b)
+    go true f g r = ap₂ _∷_ (eqb-true x y f) (r g)
+    go false f g r = absurd (let z : _≡_ {A = ℕ} 0 1 = cc in omega arith)
+
+pub same-bytes-refl : (a : List ℕ) → sameBytes a a ≡ true
+same-bytes-refl [] = refl
+same-bytes-refl (x ∷ a) = rw (eq-eqb x x refl, same-bytes-refl a)
+
+-- a test that is true exactly if both are equal
+test-same : (b : Bool) (m n : ℕ) → (b ≡ true → m ≡ n) → (m ≡ n → b ≡ true) → eqb m n ≡ b
+test-same true m n f g = eq-eqb m n (f refl)
+test-same false m n f g = ne-eqb m n (λ e. let h = g e in let z : _≡_ {A = ℕ} 0 1 = cc in omega arith)
+
+pub packed-compared : (a b : List ℕ) → IsSymbol a → IsSymbol b → eqb (packed a) (packed b) ≡ sameBytes a b
+packed-compared a b i j = test-same (sameBytes a b) (packed a) (packed b) (λ e. ap packed (same-bytes-is a b e)) (λ e. ap (λ (x : List ℕ). sameBytes a x) (sym (symbols-same a b i j e)) ∙ same-bytes-refl a)
+
+-- ---- atoms
+module _ {C : List ℕ} {n : ℕ} {v u : Val} where
+  pub symbols-compared : {a b : List ℕ} → Rep C n v (symbol a) → Rep C n u (symbol b) → eqb (v .word) (u .word) ≡ sameBytes a b
+  symbols-compared {a} {b} (rep-symbol t i e) (rep-symbol t₂ j f) = rw (e, f) (packed-compared a b i j)
+
+  pub ints-compared : {a b : ℤ} → Rep C n v (int a) → Rep C n u (int b) → (eqb (v .tag) (u .tag) && eqb (v .word) (u .word)) ≡ sameInt a b
+  ints-compared (rep-pos t e l) (rep-pos t₂ f l₂) = rw (t, t₂, e, f)
+  ints-compared (rep-pos t e l) (rep-neg t₂ f l₂) = rw (t, t₂)
+  ints-compared (rep-neg t e l) (rep-pos t₂ f l₂) = rw (t, t₂)
+  ints-compared (rep-neg t e l) (rep-neg t₂ f l₂) = rw (t, t₂, e, f)
+
+-- ---- T is 20, F is 6
+packed-T : packed (bytes "T") ≡ 20
+unfolding packed letterOf
+packed-T = refl
+
+packed-F : packed (bytes "F") ≡ 6
+unfolding packed letterOf
+packed-F = refl
+
+good-T : IsSymbol (bytes "T")
+good-T = (refl, refl, omega arith)
+
+good-F : IsSymbol (bytes "F")
+good-F = (refl, refl, omega arith)
+
+-- the value of a truth
+abbrev pub truthVal : Bool → Val
+truthVal true = record { tag = 2; word = 20 }
+truthVal false = record { tag = 2; word = 6 }
+
+pub truth-rep : {C : List ℕ} {n : ℕ} (b : Bool) → Rep C n (truthVal b) (truth b)
+truth-rep true = rep-symbol refl good-T (sym packed-T)
+truth-rep false = rep-symbol refl good-F (sym packed-F)
+
+pub truth-T : {C : List ℕ} {n : ℕ} {v : Val} {x : Obj} → v .tag ≡ 2 → v .word ≡ 20 → Rep C n v x → truthOf x ≡ isT
+truth-T h w (rep-pos t e b) = absurd (omega arith)
+truth-T h w (rep-neg t e b) = absurd (omega arith)
+truth-T h w (rep-symbol {w = s} t i e) = let z : s ≡ bytes "T" = symbols-same s (bytes "T") i good-T (sym e ∙ w ∙ sym packed-T) in ap (λ (y : List ℕ). truthOf (symbol y)) z
+truth-T h w (rep-nil t e) = absurd (omega arith)
+truth-T h w (rep-more t e l a b) = absurd (omega arith)
+
+pub truth-F : {C : List ℕ} {n : ℕ} {v : Val} {x : Obj} → v .tag ≡ 2 → v .word ≡ 6 → Rep C n v x → truthOf x ≡ isF
+truth-F h w (rep-pos t e b) = absurd (omega arith)
+truth-F h w (rep-neg t e b) = absurd (omega arith)
+truth-F h w (rep-symbol {w = s} t i e) = let z : s ≡ bytes "F" = symbols-same s (bytes "F") i good-F (sym e ∙ w ∙ sym packed-F) in ap (λ (y : List ℕ). truthOf (symbol y)) z
+truth-F h w (rep-nil t e) = absurd (omega arith)
+truth-F h w (rep-more t e l a b) = absurd (omega arith)
+
+-- neither, where the tag is another
+pub truth-other : {C : List ℕ} {n : ℕ} {v : Val} {x : Obj} → (v .tag ≡ 2 → ⊥) → Rep C n v x → truthOf x ≡ neither
+truth-other h (rep-pos t e b) = refl
+truth-other h (rep-neg t e b) = refl
+truth-other h (rep-symbol t i e) = absurd (h t)
+truth-other h (rep-nil t e) = refl
+truth-other h (rep-more t e l a b) = refl
+
+-- neither, where the word is another
+pub truth-neither : {C : List ℕ} {n : ℕ} {v : Val} {x : Obj} → (v .word ≡ 20 → ⊥) → (v .word ≡ 6 → ⊥) → Rep C n v x → truthOf x ≡ neither
+truth-neither h k (rep-pos t e b) = refl
+truth-neither h k (rep-neg t e b) = refl
+truth-neither h k (rep-symbol {w = s} t i e) =
+    let p : sameBytes s (bytes "T") ≡ false = sym (packed-compared s (bytes "T") i good-T) ∙ ne-eqb (packed s) (packed (bytes "T")) (λ z. h (e ∙ z ∙ packed-T)) in
+    let q : sameBytes s (bytes "F") ≡ false = sym (packed-compared s (bytes "F") i good-F) ∙ ne-eqb (packed s) (packed (bytes "F")) (λ z. k (e ∙ z ∙ packed-F)) in
+    rw (p, q, truthOf)
+truth-neither h k (rep-nil t e) = refl
+truth-neither h k (rep-more t e l a b) = refl
