@@ -27,7 +27,7 @@ use Rattle.cells.proofs.Reps.{same-refl, rep-ext}
 use Rattle.primitives.specs.Ends.{Made, Agree, Gives, gives-value, gives-bottom, gives-spent, Leaf, Sinks as Sinks-leaf}
 use Rattle.linker.specs.Linked.{FormIs, is-op, is-select, is-select-right, is-name, is-chain, is-construct, is-insert, is-all, is-condition, is-while, is-constant, is-bu, FormAt, form-at, DefAt, kindAt, constantAt, linkAt}
 use Rattle.evaluator.specs.Applying.{Setting, by, At, Given, Applied, Falls, Sinks, Chained, Built, Mapped, Inserted, Bound, Chosen, Repeated, Named, nameBy, Ran}
-use Rattle.evaluator.specs.Stub.{Coded}
+use Rattle.primitives.specs.Leaves.{Coded}
 use Rattle.evaluator.proofs.Steps.{Since, since-step, ends-since, ends-eq, gives-eq, kept-refl, agree-refl, given-charged, sinks-le}
 
 -- the number is no kind

@@ -1,3 +1,2 @@
 pub mod Ring
 pub mod Applying
-pub mod Stub

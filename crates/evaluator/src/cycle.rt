@@ -3,9 +3,8 @@
 ghost use Rattle.evaluator.specs.Applying.{Applied, Chained, Slotted, Built, Mapped, Folded, Inserted, Questioned, Repeated, Bound, Chosen, Named};
 use crate::forms::{arity, constant, inner, kind, low, next};
 use crate::waiting::{Asked, collect, place, verdict};
-use crate::words::{apply_word, select, select_right};
 use language::{Charge, Meter, Val};
-use primitives::Ended;
+use primitives::{apply_word, select, select_right, Ended};
 
 // One application of the form at i to v.
 pub fn apply(f: &[u32], c: &mut [u32], w: &mut [u32], top: u32, i: u32, v: Val, m: Meter) -> Ended

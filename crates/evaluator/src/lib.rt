@@ -3,4 +3,3 @@ pub mod cycle;
 pub mod forms;
 pub mod run;
 pub mod waiting;
-mod words;

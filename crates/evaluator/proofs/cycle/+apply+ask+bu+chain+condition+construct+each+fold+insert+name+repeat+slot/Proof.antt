@@ -64,9 +64,9 @@ use Rattle.evaluator.proofs.forms.next.Reads as next-reads
 use Rattle.evaluator.proofs.waiting.collect.Reads as collect-reads
 use Rattle.evaluator.proofs.waiting.place.Reads as place-reads
 use Rattle.evaluator.proofs.waiting.verdict.Reads as verdict-reads
-use Rattle.evaluator.proofs.words.apply_word.Reads as apply-word-reads
-use Rattle.evaluator.proofs.words.select.Reads as select-reads
-use Rattle.evaluator.proofs.words.select_right.Reads as select-right-reads
+use Rattle.primitives.proofs.apply_word.Reads as apply-word-reads
+use Rattle.primitives.proofs.select.Reads as select-reads
+use Rattle.primitives.proofs.select_right.Reads as select-right-reads
 use Rattle.language.proofs.Meter.charge_cells.Reads as charge-cells-reads
 use Rattle.language.proofs.Meter.charge_step.Reads as charge-step-reads
 use Rattle.language.proofs.Meter.close_name.Reads as close-name-reads
