@@ -1,7 +1,7 @@
 -- The operations on tags and words are those on the integers, sign by sign.
 use Prim.Native.Nat.{ℕ, zero, suc, _+_, _-_, _*_, _/_, _≤_, _<_}
 use mathlib.Core.Path.{_≡_, refl, sym, ap, subst, _∙_}
-use mathlib.Core.Bool.{Bool, true, false}
+use mathlib.Core.Bool.{Bool}
 use native.Mathlib.Omega.{arith}
 use native.Mathlib.Nat.{mul-le-mul}
 use lib.Dec.{eqb, ltb}
@@ -32,25 +32,25 @@ pub difference-above : {v : Val} (x y : ℕ) → y ≤ x → v .tag ≡ 0 → v 
 difference-above x y h t w = rw (le-ltb x y h) (pos-is (x - y) t w)
 
 -- ---- the other sign
-pub negated-negative : {v r : Val} → Short v → v .tag ≡ 1 → r .tag ≡ 0 → r .word ≡ v .word + 1 → Negated v r
-negated-negative {v} {r} s e t w = record { small = record { tag = omega arith; word = omega (arith, s .word) }; means = go }
+pos-small : {r : Val} (k : ℕ) → k ≤ 2147483648 → Holds r (pos k) → Small r
+pos-small k h (holds-pos t w) = record { tag = omega arith; word = omega arith }
+
+neg-small : {r : Val} (k : ℕ) → k ≤ 2147483648 → Holds r (negℤ (pos k)) → Small r
+neg-small zero h (holds-pos t w) = record { tag = omega arith; word = omega arith }
+neg-small (suc k) h (holds-neg t w) = record { tag = omega arith; word = omega arith }
+
+pub negated-negative : {v r : Val} → Short v → v .tag ≡ 1 → Holds r (pos (v .word + 1)) → Negated v r
+negated-negative {v} {r} s e h = record { small = pos-small (v .word + 1) (omega (arith, s .word)) h; means = go }
   where
     go : (i : ℤ) → Holds v i → Holds r (negℤ i)
     go (pos k) (holds-pos f g) = absurd (omega arith)
-    go (negsuc k) (holds-neg f g) = pos-is (suc k) t (omega arith)
+    go (negsuc k) (holds-neg f g) = let u : v .word + 1 ≡ suc k = omega arith in rw u at h
 
-pub negated-zero : {v r : Val} → Short v → (v .tag ≡ 1 → ⊥) → v .word ≡ 0 → r ≡ v → Negated v r
-negated-zero {v} {r} s e z q = record { small = rw q (record { tag = s .tag; word = omega (arith, s .word) }); means = rw q go }
-  where
-    go : (i : ℤ) → Holds v i → Holds v (negℤ i)
-    go (pos k) (holds-pos f g) = let u : k ≡ 0 = omega arith in rw u (holds-pos f z)
-    go (negsuc k) (holds-neg f g) = absurd (e f)
-
-pub negated-positive : {v r : Val} → Short v → (v .tag ≡ 1 → ⊥) → (v .word ≡ 0 → ⊥) → r .tag ≡ 1 → r .word ≡ v .word - 1 → Negated v r
-negated-positive {v} {r} s e z t w = record { small = record { tag = omega arith; word = omega (arith, s .word) }; means = go }
+pub negated-positive : {v r : Val} → Short v → (v .tag ≡ 1 → ⊥) → Holds r (negℤ (pos (v .word))) → Negated v r
+negated-positive {v} {r} s e h = record { small = neg-small (v .word) (omega (arith, s .word)) h; means = go }
   where
     go : (i : ℤ) → Holds v i → Holds r (negℤ i)
-    go (pos k) (holds-pos f g) = negative-more k (λ u. z (g ∙ u)) t (omega arith)
+    go (pos k) (holds-pos f g) = subst (λ (n : ℕ). Holds r (negℤ (pos n))) g h
     go (negsuc k) (holds-neg f g) = absurd (e f)
 
 -- ---- sums

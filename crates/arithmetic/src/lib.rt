@@ -55,20 +55,10 @@ fn negated(v: Val) -> Val
     requires { ⌜ Short v ⌝ }
     ensures { λ r. ⌜ Negated v r ⌝ }
 {
-    let n = v.word;
     if v.tag == 1 {
-        return Val {
-            tag: 0,
-            word: n + 1,
-        };
+        return positive(v.word + 1);
     }
-    if n == 0 {
-        return v;
-    }
-    Val {
-        tag: 1,
-        word: n - 1,
-    }
+    negative(v.word)
 }
 
 pub fn add(a: Val, b: Val) -> Val

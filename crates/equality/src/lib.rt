@@ -1,6 +1,8 @@
 // Whether two values stand for the same object, with a step for each pair of objects looked at.
 ghost use Rattle.equality.specs.Looking.{Looks, LooksAlong};
-use language::{Charge, Meter, Val};
+use language::Charge;
+use language::Meter;
+use language::Val;
 
 // No difference came, one came, or the steps were spent before.
 pub enum Compared {

@@ -1,6 +1,6 @@
 -- A word's cells are those of the table's rule, asked for at once; they begin at the free cell.
-use Prim.Native.Nat.{ℕ, zero, suc, _+_, _-_, _*_, _%_, _≤_, _<_}
-use mathlib.Core.Path.{_≡_, refl, sym, ap, subst, _∙_}
+use Prim.Native.Nat.{ℕ, _+_, _-_, _*_, _%_, _≤_, _<_}
+use mathlib.Core.Path.{_≡_, refl, sym, ap, _∙_}
 use mathlib.Core.Bool.{Bool, true, false}
 use mathlib.Core.List.{List, [], _∷_}
 use native.Mathlib.Omega.{arith}
@@ -18,8 +18,7 @@ use Rattle.cells.specs.Cells.{Room, free}
 use Rattle.cells.proofs.Reps.{free-is}
 use Rattle.lexer.specs.Vocabulary.{opCode, ruleCode, ruleAt}
 use Rattle.equality.proofs.Comparisons.{meter-same}
-use Rattle.primitives.specs.Asking.{CellsAsked, Clipped, Reserves, reserved, too-few, Kept, Keeps, Reserving}
-use Rattle.primitives.specs.declared.Reserved.{Reserved}
+use Rattle.primitives.specs.Asking.{CellsAsked, Clipped, Reserves, reserved, too-few, Reserving}
 use Rattle.primitives.specs.declared.Reserved.the-variants.{At, Short}
 use Rattle.primitives.proofs.Ending.{free-low}
 

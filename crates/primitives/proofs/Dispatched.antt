@@ -1,8 +1,8 @@
 -- A word by its code.
-use Prim.Native.Nat.{ℕ, zero, suc, _+_, _-_, _*_, _≤_, _<_}
+use Prim.Native.Nat.{ℕ, _≤_}
 use mathlib.Core.Path.{_≡_, refl, sym, ap, subst, _∙_}
-use mathlib.Core.Bool.{Bool, true, false, _&&_, _||_}
-use mathlib.Core.List.{List, [], _∷_}
+use mathlib.Core.Bool.{true, _&&_, _||_}
+use mathlib.Core.List.{List}
 use native.Mathlib.Omega.{arith}
 use lib.IntN.{_+ℤ_, _-ℤ_, _*ℤ_}
 use lib.ListN.{getD}
@@ -10,20 +10,20 @@ use lib.Signed.{ltZ}
 use Rattle.language.specs.Objects.{Obj, seq, Objs, nil, _::_, lengthOf, _+++_, truth}
 use Rattle.language.specs.Words.{Op, ops}
 use Rattle.language.specs.Forms.{op}
-use Rattle.language.specs.Meanings.{WordAnswer, falls, gives, one, meaning, made, plain, number, divided, compared, look, onSeq, onInt, onTruth, onPair, pair, turned, toLeft, toRight, withLeft, withRight}
+use Rattle.language.specs.Meanings.{WordAnswer, falls, one, meaning, made, plain, number, divided, compared, look, onSeq, onInt, onTruth, onPair, pair, withLeft, withRight}
 use Rattle.language.specs.Evaluation.{charged}
 use Rattle.language.specs.declared.Meter.{Meter}
 use Rattle.language.specs.declared.Val.{Val}
-use Rattle.cells.specs.Cells.{Rep, Room, free}
+use Rattle.cells.specs.Cells.{Room, free}
 use Rattle.lexer.specs.Vocabulary.{opCode}
 use Rattle.primitives.specs.Shapes.{IsTwo, are-two, not-two, ReadTwo}
-use Rattle.primitives.specs.Ends.{Gives, Sinks, Leaf}
+use Rattle.primitives.specs.Ends.{Gives, Leaf}
 use Rattle.primitives.specs.Leaves.{LeafTwo, Plain, PlainTwo, Coded, CodedTwo, CodedPair, takesPair, Orders, order-reverse, order-rotl, order-rotr, Ordered}
 use Rattle.primitives.specs.declared.Ended.{Ended}
 use Rattle.primitives.specs.declared.Ended.the-variants.{Done, Stop}
 use Rattle.primitives.specs.declared.Two.{Two}
 use Rattle.primitives.specs.declared.Two.the-variants.{Both, Other}
-use Rattle.primitives.proofs.Ending.{end-falls, end-plain, leaf-falls, two-falls, free-under}
+use Rattle.primitives.proofs.Ending.{end-plain, leaf-falls, free-under}
 
 -- ---- a word has one code, of the 23
 opAt : ℕ → Op

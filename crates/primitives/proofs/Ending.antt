@@ -1,23 +1,21 @@
 -- Ends of words: bottom takes nothing, a word without cells keeps the meter, cells are taken at once or the run stops.
-use Prim.Native.Nat.{ℕ, zero, suc, _+_, _-_, _*_, _/_, _≤_, _<_}
-use mathlib.Core.Path.{_≡_, refl, sym, ap, ap₂, subst, _∙_}
-use mathlib.Core.Bool.{Bool, true, false}
-use mathlib.Core.List.{List, [], _∷_}
+use Prim.Native.Nat.{ℕ, _+_, _-_, _≤_, _<_}
+use mathlib.Core.Path.{_≡_, refl, ap, _∙_}
+use mathlib.Core.List.{List}
 use native.Mathlib.Omega.{arith}
-use lib.Dec.{leb}
 use lib.ListN.{length}
 use borrow.Author.Tests.{le-leb, lt-leb}
 use Rattle.language.specs.Objects.{Obj}
 use Rattle.language.specs.Forms.{Word}
 use Rattle.language.specs.Meanings.{WordAnswer, falls, gives, one, meaning, pair}
-use Rattle.language.specs.Evaluation.{Out, value, bottom, spent, noCell, noStep, askSteps, askCells, charged}
+use Rattle.language.specs.Evaluation.{value, bottom, spent, noCell, askSteps, askCells, charged}
 use Rattle.language.specs.Charging.{cellsTaken}
 use Rattle.language.specs.declared.Meter.{Meter}
 use Rattle.language.specs.declared.Val.{Val}
 use Rattle.cells.specs.Cells.{Rep, Same, Room, free}
 use Rattle.cells.proofs.Reps.{same-refl}
 use Rattle.equality.proofs.Comparisons.{meter-same}
-use Rattle.primitives.specs.Ends.{Made, Agree, Gives, gives-value, gives-bottom, gives-spent, Sinks, Leaf}
+use Rattle.primitives.specs.Ends.{Agree, Gives, gives-value, gives-bottom, gives-spent, Leaf}
 use Rattle.primitives.specs.Leaves.{LeafTwo, Plain, PlainTwo}
 use Rattle.primitives.specs.declared.Ended.{Ended}
 use Rattle.primitives.specs.declared.Ended.the-variants.{Done, Stop}

@@ -1,16 +1,16 @@
 -- The words that answer T or F, and those on T and F.
-use Prim.Native.Nat.{ℕ, zero, suc, _+_, _-_, _*_, _≤_, _<_}
-use mathlib.Core.Path.{_≡_, refl, sym, ap, subst, _∙_}
+use Prim.Native.Nat.{ℕ, _-_}
+use mathlib.Core.Path.{_≡_, refl, sym, ap, _∙_}
 use mathlib.Core.Bool.{Bool, true, false, cond, _&&_, _||_, not as opposite}
-use mathlib.Core.List.{List, [], _∷_}
+use mathlib.Core.List.{List}
 use native.Mathlib.Omega.{arith}
 use lib.Dec.{eqb, leb}
 use borrow.Author.Tests.{eq-eqb, ne-eqb, le-leb}
 use Rattle.language.specs.Objects.{Obj, truth, Truth, isT, isF, neither, truthOf}
 use Rattle.language.specs.Words.{Op}
 use Rattle.language.specs.Forms.{op}
-use Rattle.language.specs.Meanings.{WordAnswer, falls, gives, one, meaning, pair, onTruth, onTruths, isAtom, isNull, Looked, look, compared}
-use Rattle.language.specs.Evaluation.{Out, value, spent, noStep, askSteps, askCells, charged}
+use Rattle.language.specs.Meanings.{WordAnswer, falls, gives, one, meaning, pair, onTruth, Looked, look, compared}
+use Rattle.language.specs.Evaluation.{value, spent, noStep, askSteps, askCells, charged}
 use Rattle.language.specs.declared.Meter.{Meter}
 use Rattle.language.specs.declared.Val.{Val}
 use Rattle.cells.specs.Cells.{Rep, Room, free}
@@ -20,10 +20,10 @@ use Rattle.equality.specs.declared.Compared.{Compared}
 use Rattle.equality.specs.declared.Compared.the-variants.{Equal, Differ, Out as Ran}
 use Rattle.equality.proofs.Comparisons.{meter-same, looks-as}
 use Rattle.primitives.specs.Shapes.{truthVal, truthCode, ReadTruth, ReadAtom, ReadNull}
-use Rattle.primitives.specs.Ends.{Made, Agree, Gives, gives-value, gives-spent, Leaf}
+use Rattle.primitives.specs.Ends.{Gives, gives-value, gives-spent}
 use Rattle.primitives.specs.Leaves.{LeafTwo, Plain, PlainTwo}
 use Rattle.primitives.specs.declared.Ended.the-variants.{Done, Stop}
-use Rattle.primitives.proofs.Ending.{end-falls, end-plain, leaf-falls, two-falls, agree-self, free-under}
+use Rattle.primitives.proofs.Ending.{end-plain, leaf-falls, two-falls, agree-self, free-under}
 use Rattle.primitives.proofs.Shaped.{truth-rep}
 
 pub atom-is : {v u : Val} {m : Meter} {t : Bool} → ReadAtom v t → u ≡ truthVal t → Plain v m (op Op.atom) (Done u m)
@@ -94,9 +94,14 @@ pub not-other : {v : Val} {m : Meter} {n : ℕ} → ReadTruth v n → n ≡ 2 �
 not-other {m = m} g e = record { means = λ C. leaf-falls (λ x room r. onTruth-is x (λ a. gives 0 0 (truth (opposite a))) neither (code-neither (truthOf x) (g .means C (free C m) x r) e)) }
 
 pub not-is : {v u : Val} {m : Meter} {n : ℕ} → ReadTruth v n → (n ≡ 2 → ⊥) → u ≡ truthVal (eqb n 0) → Plain v m (op Op.not) (Done u m)
-not-is {m = m} {n = n} g h e = record { means = λ C. record { sinks = (omega arith, refl); means = λ x room r.
-    let c = g .means C (free C m) x r in
-    end-plain (truth (eqb n 0)) room (code-truth (truthOf x) x (λ a. gives 0 0 (truth (opposite a))) refl c h ∙ ap (λ (b : Bool). gives 0 0 (truth b)) (sym (code-zero (truthOf x) c h))) (truth-rep C (free C m) (eqb n 0) e) } }
+not-is {m = m} {n = n} g h e = record {
+  means = λ C. record {
+    sinks = (omega arith, refl);
+    means = λ x room r.
+        let c = g .means C (free C m) x r in
+        end-plain (truth (eqb n 0)) room (code-truth (truthOf x) x (λ a. gives 0 0 (truth (opposite a))) refl c h ∙ ap (λ (b : Bool). gives 0 0 (truth b)) (sym (code-zero (truthOf x) c h))) (truth-rep C (free C m) (eqb n 0) e);
+  };
+}
 
 -- ---- and, or
 pub data OnTruths : Op → (Bool → Bool → Bool) → Type 0 where
@@ -120,10 +125,15 @@ second-neither {m = m} {f = f} w g e = record { means = λ C. two-falls (λ x y 
 
 -- both are T or F, and the answer is t
 truths-end : {a b u : Val} {m : Meter} {o : Op} {f : Bool → Bool → Bool} {n k : ℕ} (t : Bool) → OnTruths o f → ReadTruth a n → ReadTruth b k → (n ≡ 2 → ⊥) → (k ≡ 2 → ⊥) → u ≡ truthVal t → ((p q : Truth) → n ≡ truthCode p → k ≡ truthCode q → t ≡ f (truly p) (truly q)) → PlainTwo a b m (op o) (Done u m)
-truths-end {m = m} {f = f} t w g g₂ h h₂ e s = record { means = λ C. record { sinks = (omega arith, refl); means = λ x y room ra rb.
-    let c = g .means C (free C m) x ra in
-    let d = g₂ .means C (free C m) y rb in
-    end-plain (truth t) room (on-truths w x y ∙ (code-truth (truthOf x) x (λ a. onTruth y (λ b. gives 0 0 (truth (f a b)))) refl c h ∙ (code-truth (truthOf y) y (λ b. gives 0 0 (truth (f (truly (truthOf x)) b))) refl d h₂ ∙ ap (λ (b : Bool). gives 0 0 (truth b)) (sym (s (truthOf x) (truthOf y) c d))))) (truth-rep C (free C m) t e) } }
+truths-end {m = m} {f = f} t w g g₂ h h₂ e s = record {
+  means = λ C. record {
+    sinks = (omega arith, refl);
+    means = λ x y room ra rb.
+        let c = g .means C (free C m) x ra in
+        let d = g₂ .means C (free C m) y rb in
+        end-plain (truth t) room (on-truths w x y ∙ (code-truth (truthOf x) x (λ a. onTruth y (λ b. gives 0 0 (truth (f a b)))) refl c h ∙ (code-truth (truthOf y) y (λ b. gives 0 0 (truth (f (truly (truthOf x)) b))) refl d h₂ ∙ ap (λ (b : Bool). gives 0 0 (truth b)) (sym (s (truthOf x) (truthOf y) c d))))) (truth-rep C (free C m) t e);
+  };
+}
 
 pub and-first-f : {a b u : Val} {m : Meter} {n k : ℕ} → ReadTruth a n → ReadTruth b k → (n ≡ 2 → ⊥) → (k ≡ 2 → ⊥) → n ≡ 0 → u ≡ truthVal false → PlainTwo a b m (op Op.and) (Done u m)
 and-first-f g g₂ h h₂ z e = truths-end false on-and g g₂ h h₂ e (λ p q c d. sym (ap (λ (b : Bool). b && truly q) (code-is-f p c z)))

@@ -1,34 +1,34 @@
 -- The words that make cells: reverse, rotl, rotr, tlr; apndl, apndr, distl, distr.
-use Prim.Native.Nat.{ℕ, zero, suc, _+_, _-_, _*_, _≤_, _<_}
+use Prim.Native.Nat.{ℕ, suc, _+_, _-_, _*_, _≤_, _<_}
 use mathlib.Core.Path.{_≡_, refl, sym, ap, subst, _∙_}
-use mathlib.Core.Bool.{Bool, true, false}
-use mathlib.Core.List.{List, [], _∷_}
+use mathlib.Core.Bool.{true, false}
+use mathlib.Core.List.{List}
 use native.Mathlib.Omega.{arith}
 use lib.ListN.{length}
 use Rattle.language.specs.Objects.{Obj, int, symbol, seq, Objs, nil, _::_, lengthOf, _+++_}
 use Rattle.language.specs.Words.{Op, Entry, entry, cellsBy}
 use Rattle.language.specs.Forms.{op}
-use Rattle.language.specs.Meanings.{WordAnswer, falls, gives, one, meaning, made, onSeq, onFull, pair, turned, toLeft, toRight, withLeft, withRight}
+use Rattle.language.specs.Meanings.{WordAnswer, gives, one, meaning, made, onSeq, pair, turned, toLeft, toRight, withLeft, withRight}
 use Rattle.language.specs.Evaluation.{charged}
 use Rattle.language.specs.Charging.{cellsTaken}
 use Rattle.language.specs.declared.Meter.{Meter}
 use Rattle.language.specs.declared.Val.{Val}
-use Rattle.cells.specs.Cells.{Rep, rep-pos, rep-neg, rep-symbol, rep-nil, rep-more, Same, Room, free, sequenceVal}
+use Rattle.cells.specs.Cells.{Rep, Room, free, sequenceVal}
 use Rattle.cells.specs.Parts.{Sized}
 use Rattle.cells.proofs.Reps.{rep-ext, same-trans}
 use Rattle.lexer.specs.Vocabulary.{opCode}
-use Rattle.sequences.specs.Making.{Space, Stands, Before, takeObjs, Prepended, Built, allButLast, sides, Shared}
+use Rattle.sequences.specs.Making.{Space, Stands, Before, Prepended, Built, allButLast, sides, Shared}
 use Rattle.sequences.proofs.Parts.{take-all, length-append-one, length-but-last}
-use Rattle.sequences.proofs.Building.{nil-rep, stands-as, length-turned, length-sides}
-use Rattle.primitives.specs.Ends.{Gives, Sinks, Leaf}
-use Rattle.primitives.specs.Asking.{Reserves, reserved, too-few, Kept, Keeps, Reserving}
+use Rattle.sequences.proofs.Building.{nil-rep, stands-as, length-turned}
+use Rattle.primitives.specs.Ends.{Gives, Leaf}
+use Rattle.primitives.specs.Asking.{Reserves, reserved, too-few, Kept, Reserving}
 use Rattle.primitives.specs.Leaves.{LeafTwo, Orders, order-tlr, order-reverse, order-rotl, order-rotr, Arranged, Ordered}
 use Rattle.primitives.specs.declared.Ended.{Ended}
 use Rattle.primitives.specs.declared.Ended.the-variants.{Done, Stop}
 use Rattle.primitives.specs.declared.Reserved.{Reserved}
 use Rattle.primitives.specs.declared.Reserved.the-variants.{At, Short}
 use Rattle.primitives.proofs.Ending.{end-falls, end-cells, end-short, leaf-falls, two-falls, free-under, free-low}
-use Rattle.primitives.proofs.Selected.{no-seq, SeqOf, seq-of, full-none}
+use Rattle.primitives.proofs.Selected.{no-seq, seq-of, full-none}
 
 -- ---- cells that were asked for
 pub record Got (C : List ℕ) (need : ℕ) (m : Meter) (p : ℕ) (k : Meter) : Type 0 where
@@ -202,15 +202,21 @@ pub apndl-short : {C : List ℕ} {a b : Val} {m k : Meter} {n : ℕ} {q : Reserv
 apndl-short h s g e = record { sinks = tt; means = second-seq Op.apndl h s (λ x ys i room ra rb. let b = short Op.apndl g e code-apndl room in end-short 1 (seq (x :: ys)) refl (b .0) (b .1)) }
 
 pub apndl-is : {C C′ : List ℕ} {a b r : Val} {m k : Meter} {n p : ℕ} {q : Reserved} → b .tag ≡ 3 → Sized b n → Reserving C 14 n 0 m q → q ≡ At p k → Before C p a b r C′ → length C′ ≡ length C → LeafTwo C a b m (op Op.apndl) (Done r k) C′
-apndl-is h s g e t l = record { sinks = kept-sinks (kept g e); means = second-seq Op.apndl h s (λ x ys i room ra rb.
-    let b = got Op.apndl g e code-apndl room in
-    end-stands 1 (x :: ys) room refl b l (t .means x ys (space-at room b) (rw (← (b .first)) at ra) (rw (← (b .first)) at rb))) }
+apndl-is h s g e t l = record {
+  sinks = kept-sinks (kept g e);
+  means = second-seq Op.apndl h s (λ x ys i room ra rb.
+      let b = got Op.apndl g e code-apndl room in
+      end-stands 1 (x :: ys) room refl b l (t .means x ys (space-at room b) (rw (← (b .first)) at ra) (rw (← (b .first)) at rb)));
+}
 
 -- ---- apndr
 pub apndr-short : {C : List ℕ} {a b : Val} {m k : Meter} {n : ℕ} {q : Reserved} → a .tag ≡ 3 → Sized a n → Reserving C 19 n 0 m q → q ≡ Short k → LeafTwo C a b m (op Op.apndr) (Stop 24 k) C
-apndr-short h s g e = record { sinks = tt; means = first-seq Op.apndr h s (λ xs y i room ra rb.
-    let b = rw i at (short Op.apndr g e code-apndr room) in
-    end-short (lengthOf xs + 1) (seq (xs +++ (y :: nil))) refl (b .0) (b .1)) }
+apndr-short h s g e = record {
+  sinks = tt;
+  means = first-seq Op.apndr h s (λ xs y i room ra rb.
+      let b = rw i at (short Op.apndr g e code-apndr room) in
+      end-short (lengthOf xs + 1) (seq (xs +++ (y :: nil))) refl (b .0) (b .1));
+}
 
 apndr-stands : {C C₁ C₂ : List ℕ} {a b o last r : Val} {n p : ℕ} (xs : Objs) (y : Obj) → n ≡ lengthOf xs → o ≡ sequenceVal 0 0 → Before C p b o last C₁ → length C₁ ≡ length C → Prepended C₁ a n (p + 1) last r C₂ → Space C p (lengthOf xs + 1) → Rep C p a (seq xs) → Rep C p b y → Stands C p (lengthOf xs + 1) (xs +++ (y :: nil)) r C₂
 apndr-stands {C} {C₁} {C₂} {a} {b} {o} {last} {r} {n} {p} xs y i f t l g s ra rb =
@@ -220,9 +226,12 @@ apndr-stands {C} {C₁} {C₂} {a} {b} {o} {last} {r} {n} {p} xs y i f t l g s r
     record { rep = subst (λ (z : ℕ). Rep C₂ z r (seq (xs +++ (y :: nil)))) e (subst (λ (t : Objs). Rep C₂ (p + 1 + n) r (seq (t +++ (y :: nil)))) (take-all n xs (omega arith)) (k .rep)); same = same-trans (omega arith) (st .same) (k .same) }
 
 pub apndr-is : {C C₁ C₂ : List ℕ} {a b o last r : Val} {m k : Meter} {n p : ℕ} {q : Reserved} → a .tag ≡ 3 → Sized a n → Reserving C 19 n 0 m q → q ≡ At p k → o ≡ sequenceVal 0 0 → Before C p b o last C₁ → length C₁ ≡ length C → Prepended C₁ a n (p + 1) last r C₂ → length C₂ ≡ length C₁ → LeafTwo C a b m (op Op.apndr) (Done r k) C₂
-apndr-is h s g e f t l u l₂ = record { sinks = kept-sinks (kept g e); means = first-seq Op.apndr h s (λ xs y i room ra rb.
-    let b = rw i at (got Op.apndr g e code-apndr room) in
-    end-stands (lengthOf xs + 1) (xs +++ (y :: nil)) room refl b (l₂ ∙ l) (apndr-stands xs y i f t l u (space-at room b) (rw (← (b .first)) at ra) (rw (← (b .first)) at rb))) }
+apndr-is h s g e f t l u l₂ = record {
+  sinks = kept-sinks (kept g e);
+  means = first-seq Op.apndr h s (λ xs y i room ra rb.
+      let b = rw i at (got Op.apndr g e code-apndr room) in
+      end-stands (lengthOf xs + 1) (xs +++ (y :: nil)) room refl b (l₂ ∙ l) (apndr-stands xs y i f t l u (space-at room b) (rw (← (b .first)) at ra) (rw (← (b .first)) at rb)));
+}
 
 pub low-next : {C : List ℕ} {code n w p : ℕ} {m k : Meter} {q : Reserved} → Reserving C code n w m q → q ≡ At p k → p + 1 < 4294967296
 low-next g e = omega (arith, kept g e .low)
@@ -239,23 +248,35 @@ sides-right x nil = refl
 sides-right x (y :: ys) = ap (λ (t : Objs). pair y x :: t) (sides-right x ys)
 
 pub distl-short : {C : List ℕ} {a b : Val} {m k : Meter} {n : ℕ} {q : Reserved} → b .tag ≡ 3 → Sized b n → Reserving C 20 n 0 m q → q ≡ Short k → LeafTwo C a b m (op Op.distl) (Stop 24 k) C
-distl-short h s g e = record { sinks = tt; means = second-seq Op.distl h s (λ x ys i room ra rb.
-    let b = rw i at (short Op.distl g e code-distl room) in
-    end-short (3 * lengthOf ys) (seq (withLeft x ys)) refl (b .0) (b .1)) }
+distl-short h s g e = record {
+  sinks = tt;
+  means = second-seq Op.distl h s (λ x ys i room ra rb.
+      let b = rw i at (short Op.distl g e code-distl room) in
+      end-short (3 * lengthOf ys) (seq (withLeft x ys)) refl (b .0) (b .1));
+}
 
 pub distl-is : {C C′ : List ℕ} {a b r : Val} {m k : Meter} {n p : ℕ} {q : Reserved} → b .tag ≡ 3 → Sized b n → Reserving C 20 n 0 m q → q ≡ At p k → Shared C a b true n p r C′ → length C′ ≡ length C → LeafTwo C a b m (op Op.distl) (Done r k) C′
-distl-is {C} {C′} {a} {b} {r} {n = n} {p = p} h s g e t l = record { sinks = kept-sinks (kept g e); means = second-seq Op.distl h s (λ x ys i room ra rb.
-    let d = rw i at (got Op.distl g e code-distl room) in
-    let t₁ : Shared C a b true (lengthOf ys) p r C′ = rw i at t in
-    end-stands (3 * lengthOf ys) (withLeft x ys) room refl d l (stands-as (sides-left x ys) (t₁ .means x ys refl (space-at room d) (rw (← (d .first)) at ra) (rw (← (d .first)) at rb)))) }
+distl-is {C} {C′} {a} {b} {r} {n = n} {p = p} h s g e t l = record {
+  sinks = kept-sinks (kept g e);
+  means = second-seq Op.distl h s (λ x ys i room ra rb.
+      let d = rw i at (got Op.distl g e code-distl room) in
+      let t₁ : Shared C a b true (lengthOf ys) p r C′ = rw i at t in
+      end-stands (3 * lengthOf ys) (withLeft x ys) room refl d l (stands-as (sides-left x ys) (t₁ .means x ys refl (space-at room d) (rw (← (d .first)) at ra) (rw (← (d .first)) at rb))));
+}
 
 pub distr-short : {C : List ℕ} {a b : Val} {m k : Meter} {n : ℕ} {q : Reserved} → a .tag ≡ 3 → Sized a n → Reserving C 21 n 0 m q → q ≡ Short k → LeafTwo C a b m (op Op.distr) (Stop 24 k) C
-distr-short h s g e = record { sinks = tt; means = first-seq Op.distr h s (λ xs y i room ra rb.
-    let b = rw i at (short Op.distr g e code-distr room) in
-    end-short (3 * lengthOf xs) (seq (withRight xs y)) refl (b .0) (b .1)) }
+distr-short h s g e = record {
+  sinks = tt;
+  means = first-seq Op.distr h s (λ xs y i room ra rb.
+      let b = rw i at (short Op.distr g e code-distr room) in
+      end-short (3 * lengthOf xs) (seq (withRight xs y)) refl (b .0) (b .1));
+}
 
 pub distr-is : {C C′ : List ℕ} {a b r : Val} {m k : Meter} {n p : ℕ} {q : Reserved} → a .tag ≡ 3 → Sized a n → Reserving C 21 n 0 m q → q ≡ At p k → Shared C b a false n p r C′ → length C′ ≡ length C → LeafTwo C a b m (op Op.distr) (Done r k) C′
-distr-is {C} {C′} {a} {b} {r} {n = n} {p = p} h s g e t l = record { sinks = kept-sinks (kept g e); means = first-seq Op.distr h s (λ xs y i room ra rb.
-    let d = rw i at (got Op.distr g e code-distr room) in
-    let t₁ : Shared C b a false (lengthOf xs) p r C′ = rw i at t in
-    end-stands (3 * lengthOf xs) (withRight xs y) room refl d l (stands-as (sides-right y xs) (t₁ .means y xs refl (space-at room d) (rw (← (d .first)) at rb) (rw (← (d .first)) at ra)))) }
+distr-is {C} {C′} {a} {b} {r} {n = n} {p = p} h s g e t l = record {
+  sinks = kept-sinks (kept g e);
+  means = first-seq Op.distr h s (λ xs y i room ra rb.
+      let d = rw i at (got Op.distr g e code-distr room) in
+      let t₁ : Shared C b a false (lengthOf xs) p r C′ = rw i at t in
+      end-stands (3 * lengthOf xs) (withRight xs y) room refl d l (stands-as (sides-right y xs) (t₁ .means y xs refl (space-at room d) (rw (← (d .first)) at rb) (rw (← (d .first)) at ra))));
+}

@@ -1,8 +1,8 @@
 -- The words on two integers.
-use Prim.Native.Nat.{ℕ, zero, suc, _+_, _-_, _*_, _≤_, _<_, _^_}
-use mathlib.Core.Path.{_≡_, refl, sym, ap, subst, _∙_}
+use Prim.Native.Nat.{ℕ, zero, suc, _+_, _≤_, _<_}
+use mathlib.Core.Path.{_≡_, refl, sym, ap, _∙_}
 use mathlib.Core.Bool.{Bool, true, false, not}
-use mathlib.Core.List.{List, [], _∷_}
+use mathlib.Core.List.{List}
 use native.Mathlib.Omega.{arith}
 use lib.Dec.{ltb}
 use lib.IntN.{ℤ, pos, negsuc, _+ℤ_, _-ℤ_, _*ℤ_}
@@ -10,16 +10,16 @@ use lib.Signed.{ltZ, quotZ}
 use borrow.Author.Tests.{lt-ltb, le-ltb, ltb-true, ltb-false}
 use Rattle.language.specs.Objects.{Obj, int, symbol, seq, truth}
 use Rattle.language.specs.Words.{Op, Entry, entry, cellsBy}
-use Rattle.language.specs.Forms.{Word, op}
-use Rattle.language.specs.Meanings.{WordAnswer, falls, gives, one, meaning, pair, onInt, onInts, inRange, number, divided}
+use Rattle.language.specs.Forms.{op}
+use Rattle.language.specs.Meanings.{WordAnswer, falls, gives, one, meaning, pair, onInts, number, divided}
 use Rattle.language.specs.Evaluation.{charged}
 use Rattle.language.specs.declared.Meter.{Meter}
 use Rattle.language.specs.declared.Val.{Val}
 use Rattle.cells.specs.Cells.{Rep, rep-pos, rep-neg, Room, free}
-use Rattle.arithmetic.specs.Integers.{Holds, holds-pos, holds-neg, Short, Small, Answers, Less}
+use Rattle.arithmetic.specs.Integers.{Holds, holds-pos, holds-neg, Short, Answers, Less}
 use Rattle.primitives.specs.Shapes.{isIntegerVal, truthVal, InRange}
 use Rattle.primitives.specs.Ends.{Gives, Sinks}
-use Rattle.primitives.specs.Leaves.{LeafTwo, PlainTwo}
+use Rattle.primitives.specs.Leaves.{PlainTwo}
 use Rattle.primitives.specs.declared.Ended.{Ended}
 use Rattle.primitives.specs.declared.Ended.the-variants.{Done, Stop}
 use Rattle.primitives.proofs.Ending.{end-falls, end-plain, two-falls}
@@ -99,10 +99,15 @@ range-sinks {m} z {r} g = go (ltb (z .word) 2147483648) refl
     go false f = rw (g .above (ltb-false (z .word) 2147483648 f)) tt
 
 pub number-word : {a b z : Val} {m : Meter} {r : Ended} (o : Op) (f : ℤ → ℤ → ℤ) → OnInts o (λ i j. number one o (f i j)) → cellsBy (entry o .rule) 0 0 ≡ 0 → Short a → Short b → Answers f a b z → InRange z m r → PlainTwo a b m (op o) r
-number-word {a} {b} {z} {m} {r} o f w c sa sb g h = record { means = λ C. record { sinks = range-sinks z h; means = λ x y room ra rb.
-    let p = integer-of sa ra in
-    let q = integer-of sb rb in
-    number-end o (f (p .number) (q .number)) c room (both-ints w x y p q) (g .means (p .number) (q .number) (p .holds) (q .holds)) h } }
+number-word {a} {b} {z} {m} {r} o f w c sa sb g h = record {
+  means = λ C. record {
+    sinks = range-sinks z h;
+    means = λ x y room ra rb.
+        let p = integer-of sa ra in
+        let q = integer-of sb rb in
+        number-end o (f (p .number) (q .number)) c room (both-ints w x y p q) (g .means (p .number) (q .number) (p .holds) (q .holds)) h;
+  };
+}
 
 pub add-end : {a b z : Val} {m : Meter} {r : Ended} → Short a → Short b → Answers _+ℤ_ a b z → InRange z m r → PlainTwo a b m (op Op.add) r
 add-end sa sb g h = number-word Op.add _+ℤ_ on-add refl sa sb g h
@@ -114,10 +119,15 @@ pub mul-end : {a b z : Val} {m : Meter} {r : Ended} → Short a → Short b → 
 mul-end sa sb g h = number-word Op.mul _*ℤ_ on-mul refl sa sb g h
 
 pub lt-end : {a b v : Val} {m : Meter} {t : Bool} → Short a → Short b → Less a b t → v ≡ truthVal t → PlainTwo a b m (op Op.lt) (Done v m)
-lt-end {a} {b} {v} {m} {t} sa sb g e = record { means = λ C. record { sinks = (omega arith, refl); means = λ x y room ra rb.
-    let p = integer-of sa ra in
-    let q = integer-of sb rb in
-    end-plain (truth t) room (both-ints on-lt x y p q ∙ ap (λ (u : Bool). gives 0 0 (truth u)) (sym (g .means (p .number) (q .number) (p .holds) (q .holds)))) (truth-rep C (free C m) t e) } }
+lt-end {a} {b} {v} {m} {t} sa sb g e = record {
+  means = λ C. record {
+    sinks = (omega arith, refl);
+    means = λ x y room ra rb.
+        let p = integer-of sa ra in
+        let q = integer-of sb rb in
+        end-plain (truth t) room (both-ints on-lt x y p q ∙ ap (λ (u : Bool). gives 0 0 (truth u)) (sym (g .means (p .number) (q .number) (p .holds) (q .holds)))) (truth-rep C (free C m) t e);
+  };
+}
 
 -- ---- division
 divided-zero : (i j : ℤ) {b : Val} → Holds b j → b .word + b .tag ≡ 0 → divided one i j ≡ falls
@@ -131,16 +141,23 @@ divided-is i (pos (suc n)) (holds-pos t w) e = refl
 divided-is i (negsuc n) (holds-neg t w) e = refl
 
 pub div-zero : {a b : Val} {m : Meter} → Short a → Short b → b .word + b .tag ≡ 0 → PlainTwo a b m (op Op.div) (Stop 21 m)
-div-zero {a} {b} {m} sa sb e = record { means = λ C. two-falls (λ x y room ra rb.
-    let p = integer-of sa ra in
-    let q = integer-of sb rb in
-    both-ints on-div x y p q ∙ divided-zero (p .number) (q .number) (q .holds) e) }
+div-zero {a} {b} {m} sa sb e = record {
+  means = λ C. two-falls (λ x y room ra rb.
+      let p = integer-of sa ra in
+      let q = integer-of sb rb in
+      both-ints on-div x y p q ∙ divided-zero (p .number) (q .number) (q .holds) e);
+}
 
 pub div-end : {a b z : Val} {m : Meter} {r : Ended} → Short a → Short b → (b .word + b .tag ≡ 0 → ⊥) → Answers quotZ a b z → InRange z m r → PlainTwo a b m (op Op.div) r
-div-end {a} {b} {z} {m} {r} sa sb e g h = record { means = λ C. record { sinks = range-sinks z h; means = λ x y room ra rb.
-    let p = integer-of sa ra in
-    let q = integer-of sb rb in
-    number-end Op.div (quotZ (p .number) (q .number)) refl room (both-ints on-div x y p q ∙ divided-is (p .number) (q .number) (q .holds) e) (g .means (p .number) (q .number) (p .holds) (q .holds)) h } }
+div-end {a} {b} {z} {m} {r} sa sb e g h = record {
+  means = λ C. record {
+    sinks = range-sinks z h;
+    means = λ x y room ra rb.
+        let p = integer-of sa ra in
+        let q = integer-of sb rb in
+        number-end Op.div (quotZ (p .number) (q .number)) refl room (both-ints on-div x y p q ∙ divided-is (p .number) (q .number) (q .holds) e) (g .means (p .number) (q .number) (p .holds) (q .holds)) h;
+  };
+}
 
 pub sum-fits : {b : Val} → Short b → b .word + b .tag < 18446744073709551616
 sum-fits s = omega (arith, s .tag, s .word)

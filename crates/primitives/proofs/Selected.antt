@@ -1,19 +1,19 @@
 -- Sequences and atoms by their tags; the selectors; the first place taken away; the length.
-use Prim.Native.Nat.{ℕ, zero, suc, _+_, _-_, _*_, _≤_, _<_}
-use mathlib.Core.Path.{_≡_, refl, sym, ap, subst, _∙_}
-use mathlib.Core.List.{List, [], _∷_}
+use Prim.Native.Nat.{ℕ, zero, suc, _-_, _≤_, _<_}
+use mathlib.Core.Path.{_≡_, refl, ap, _∙_}
+use mathlib.Core.List.{List}
 use mathlib.Core.Option.{Option, some, none}
 use native.Mathlib.Omega.{arith}
 use lib.IntN.{pos}
 use borrow.Author.Tests.{lt-ltb, le-ltb}
-use Rattle.language.specs.Objects.{Obj, int, symbol, seq, Objs, nil, _::_, lengthOf}
+use Rattle.language.specs.Objects.{Obj, int, seq, Objs, nil, _::_, lengthOf}
 use Rattle.language.specs.Words.{Op}
 use Rattle.language.specs.Forms.{select, selectRight, op}
-use Rattle.language.specs.Meanings.{WordAnswer, falls, gives, one, meaning, onSeq, onFull, pick, nth, fromLeft, fromRight}
+use Rattle.language.specs.Meanings.{WordAnswer, falls, gives, onSeq, onFull, pick, nth, fromLeft, fromRight}
 use Rattle.language.specs.declared.Meter.{Meter}
 use Rattle.language.specs.declared.Val.{Val}
-use Rattle.cells.specs.Cells.{Rep, rep-pos, rep-neg, rep-symbol, rep-nil, rep-more, Room, free}
-use Rattle.cells.specs.Parts.{Sized, Headed, Tailed, Nth, nthObj}
+use Rattle.cells.specs.Cells.{Rep, rep-pos, rep-neg, rep-symbol, rep-nil, rep-more, free}
+use Rattle.cells.specs.Parts.{Sized, Tailed, Nth, nthObj}
 use Rattle.arithmetic.specs.Integers.{Holds, holds-pos}
 use Rattle.sequences.proofs.Counts.{few-places}
 use Rattle.primitives.specs.Ends.{Leaf}
@@ -98,24 +98,30 @@ right-past {C} {m = m} {k = k} h s l = leaf-falls (λ x o r.
     rw (q .is) (ap (λ (t : Option ℕ). pick t (q .places)) (right-far k (lengthOf (q .places)) (omega (arith, e)))))
 
 pub select-is : {C : List ℕ} {v r : Val} {m : Meter} {k n : ℕ} → v .tag ≡ 3 → (k ≡ 0 → ⊥) → Sized v n → k ≤ n → Nth C v (k - 1) r → Leaf C v m (select k) (Done r m) C
-select-is {C} {m = m} {k = k} h z s l t = record { sinks = (omega arith, refl); means = λ x o r.
-    let q = seq-of h r in
-    let u = free-under C m o in
-    let e = s .means C (free C m) (q .places) u (q .rep) in
-    let i : k - 1 < lengthOf (q .places) = below k (lengthOf (q .places)) z (omega (arith, e)) in
-    rw (q .is) (end-plain (nthObj (q .places) (k - 1)) o (ap (λ (t : Option ℕ). pick t (q .places)) (left-in k (lengthOf (q .places)) z (omega (arith, e))) ∙ nth-is (k - 1) (q .places) i) (t .means (free C m) (q .places) u i (q .rep))) }
+select-is {C} {m = m} {k = k} h z s l t = record {
+  sinks = (omega arith, refl);
+  means = λ x o r.
+      let q = seq-of h r in
+      let u = free-under C m o in
+      let e = s .means C (free C m) (q .places) u (q .rep) in
+      let i : k - 1 < lengthOf (q .places) = below k (lengthOf (q .places)) z (omega (arith, e)) in
+      rw (q .is) (end-plain (nthObj (q .places) (k - 1)) o (ap (λ (t : Option ℕ). pick t (q .places)) (left-in k (lengthOf (q .places)) z (omega (arith, e))) ∙ nth-is (k - 1) (q .places) i) (t .means (free C m) (q .places) u i (q .rep)));
+}
   where
     below : (k n : ℕ) → (k ≡ 0 → ⊥) → k ≤ n → k - 1 < n
     below k n z l = omega (arith, z)
 
 pub right-is : {C : List ℕ} {v r : Val} {m : Meter} {k n : ℕ} → v .tag ≡ 3 → (k ≡ 0 → ⊥) → Sized v n → k ≤ n → Nth C v (n - k) r → Leaf C v m (selectRight k) (Done r m) C
-right-is {C} {v} {r} {m = m} {k = k} {n = n} h z s l t = record { sinks = (omega arith, refl); means = λ x o w.
-    let q = seq-of h w in
-    let u = free-under C m o in
-    let e = s .means C (free C m) (q .places) u (q .rep) in
-    let i : n - k < lengthOf (q .places) = below k n z l e in
-    let j : lengthOf (q .places) - k ≡ n - k = omega (arith, e) in
-    rw (q .is) (end-plain (nthObj (q .places) (n - k)) o (ap (λ (t : Option ℕ). pick t (q .places)) (right-in k (lengthOf (q .places)) z (omega (arith, e)) ∙ ap some j) ∙ nth-is (n - k) (q .places) i) (t .means (free C m) (q .places) u i (q .rep))) }
+right-is {C} {v} {r} {m = m} {k = k} {n = n} h z s l t = record {
+  sinks = (omega arith, refl);
+  means = λ x o w.
+      let q = seq-of h w in
+      let u = free-under C m o in
+      let e = s .means C (free C m) (q .places) u (q .rep) in
+      let i : n - k < lengthOf (q .places) = below k n z l e in
+      let j : lengthOf (q .places) - k ≡ n - k = omega (arith, e) in
+      rw (q .is) (end-plain (nthObj (q .places) (n - k)) o (ap (λ (t : Option ℕ). pick t (q .places)) (right-in k (lengthOf (q .places)) z (omega (arith, e)) ∙ ap some j) ∙ nth-is (n - k) (q .places) i) (t .means (free C m) (q .places) u i (q .rep)));
+}
   where
     below : (k n : ℕ) {p : ℕ} → (k ≡ 0 → ⊥) → k ≤ n → n ≡ p → n - k < p
     below k n z l e = omega (arith, z)
@@ -149,10 +155,13 @@ pub full-of : {C : List ℕ} {n i : ℕ} {v : Val} {x : Obj} → n < 4294967296 
 full-of u h s z r = let q = seq-of h r in full-places (q .places) u s z (q .is) (q .rep)
 
 pub tl-is : {C : List ℕ} {v r : Val} {m : Meter} {n : ℕ} → v .tag ≡ 3 → Sized v n → (n ≡ 0 → ⊥) → Tailed C v r → Leaf C v m (op Op.tl) (Done r m) C
-tl-is {C} {m = m} h s z t = record { sinks = (omega arith, refl); means = λ x o r.
-    let u = free-under C m o in
-    let q = full-of u h s z r in
-    rw (q .is) (end-plain (seq (q .others)) o refl (t .means (free C m) (q .first) (q .others) u (q .rep))) }
+tl-is {C} {m = m} h s z t = record {
+  sinks = (omega arith, refl);
+  means = λ x o r.
+      let u = free-under C m o in
+      let q = full-of u h s z r in
+      rw (q .is) (end-plain (seq (q .others)) o refl (t .means (free C m) (q .first) (q .others) u (q .rep)));
+}
 
 -- ---- length
 pub length-atom : {v : Val} {m : Meter} → (v .tag ≡ 3 → ⊥) → Plain v m (op Op.length) (Stop 21 m)
@@ -162,9 +171,14 @@ count-rep : (C : List ℕ) (n k : ℕ) {v : Val} → Holds v (pos k) → k < 214
 count-rep C n k (holds-pos t w) h = rep-pos t w h
 
 pub length-is : {v r : Val} {m : Meter} {n : ℕ} → v .tag ≡ 3 → Sized v n → Holds r (pos n) → Plain v m (op Op.length) (Done r m)
-length-is {v} {r} {m} {n} h s g = record { means = λ C. record { sinks = (omega arith, refl); means = λ x o w.
-    let q = seq-of h w in
-    let u = free-under C m o in
-    let e : n ≡ lengthOf (q .places) = s .means C (free C m) (q .places) u (q .rep) in
-    let f : Holds r (pos (lengthOf (q .places))) = rw e at g in
-    rw (q .is) (end-plain (int (pos (lengthOf (q .places)))) o refl (count-rep C (free C m) (lengthOf (q .places)) f (omega (arith, few-places (q .places) u (q .rep), free-low C m o)))) } }
+length-is {v} {r} {m} {n} h s g = record {
+  means = λ C. record {
+    sinks = (omega arith, refl);
+    means = λ x o w.
+        let q = seq-of h w in
+        let u = free-under C m o in
+        let e : n ≡ lengthOf (q .places) = s .means C (free C m) (q .places) u (q .rep) in
+        let f : Holds r (pos (lengthOf (q .places))) = rw e at g in
+        rw (q .is) (end-plain (int (pos (lengthOf (q .places)))) o refl (count-rep C (free C m) (lengthOf (q .places)) f (omega (arith, few-places (q .places) u (q .rep), free-low C m o))));
+  };
+}

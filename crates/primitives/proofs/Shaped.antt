@@ -1,14 +1,14 @@
 -- What a value shows of its object: pairs, integers, truth values, atoms.
-use Prim.Native.Nat.{ℕ, zero, suc, _+_, _-_, _*_, _≤_, _<_}
-use mathlib.Core.Path.{_≡_, refl, sym, ap, subst, _∙_}
+use Prim.Native.Nat.{ℕ, _≤_, _<_}
+use mathlib.Core.Path.{_≡_, refl, sym, ap, _∙_}
 use mathlib.Core.Bool.{Bool, true, false, _&&_, not}
-use mathlib.Core.List.{List, [], _∷_}
+use mathlib.Core.List.{List}
 use native.Mathlib.Omega.{arith}
 use lib.Dec.{eqb, ltb}
 use lib.IntN.{ℤ, pos, negsuc}
-use borrow.Author.Tests.{le-ltb, lt-ltb, ltb-true, ltb-false, eq-eqb, ne-eqb, not-true, not-false}
-use Rattle.language.specs.Bytes.{bytes, sameBytes}
-use Rattle.language.specs.Objects.{Obj, int, symbol, seq, Objs, nil, _::_, lengthOf, truth, Truth, isT, isF, neither, truthOf}
+use borrow.Author.Tests.{le-ltb, lt-ltb, ltb-true, eq-eqb, ne-eqb, not-true, not-false}
+use Rattle.language.specs.Bytes.{bytes}
+use Rattle.language.specs.Objects.{Obj, int, symbol, seq, Objs, nil, _::_, lengthOf, truth, isT, isF, neither, truthOf}
 use Rattle.language.specs.Accepted.{IsSymbol}
 use Rattle.language.specs.Packing.{packed, letterOf}
 use Rattle.language.specs.Meanings.{WordAnswer, falls, onPair, isAtom, isNull}
@@ -17,7 +17,7 @@ use Rattle.cells.specs.Cells.{Rep, rep-pos, rep-neg, rep-symbol, rep-nil, rep-m
 use Rattle.cells.specs.Parts.{Sized, Headed, Tailed}
 use Rattle.cells.proofs.Packing.{symbols-same}
 use Rattle.arithmetic.specs.Integers.{Holds, holds-pos, holds-neg, Short, Small}
-use Rattle.equality.proofs.Comparisons.{same-bytes, same-self, other-bytes, packed-as}
+use Rattle.equality.proofs.Comparisons.{other-bytes, packed-as}
 use Rattle.primitives.specs.Shapes.{IsTwo, are-two, not-two, ReadTwo, isIntegerVal, truthVal, truthCode, ReadTruth, ReadAtom, ReadNull}
 use Rattle.primitives.specs.declared.Two.the-variants.{Both, Other}
 

@@ -1,32 +1,30 @@
 -- The word trans: the columns of rows of equal length, bottom for other rows.
-use Prim.Native.Nat.{ℕ, zero, suc, _+_, _-_, _*_, _≤_, _<_}
+use Prim.Native.Nat.{ℕ, zero, suc, _+_, _*_, _<_}
 use mathlib.Core.Path.{_≡_, refl, sym, ap, subst, _∙_}
-use mathlib.Core.Bool.{Bool, true, false, _&&_, not}
-use mathlib.Core.List.{List, [], _∷_}
+use mathlib.Core.Bool.{Bool, true, false, not}
+use mathlib.Core.List.{List}
 use native.Mathlib.Omega.{arith}
 use lib.Dec.{eqb}
 use lib.ListN.{length}
 use borrow.Author.Tests.{eq-eqb, ne-eqb, eqb-true, eqb-false, not-true, not-false}
 use Rattle.language.specs.Objects.{Obj, int, symbol, seq, Objs, nil, _::_, lengthOf}
-use Rattle.language.specs.Words.{Op, Entry, entry, cellsBy}
+use Rattle.language.specs.Words.{Op, Entry}
 use Rattle.language.specs.Forms.{op}
-use Rattle.language.specs.Meanings.{WordAnswer, falls, gives, one, meaning, made, onFull, Cut, uneven, done, cut, addRow, onlyRow, cutRows, columns, widthOf}
-use Rattle.language.specs.Evaluation.{charged}
+use Rattle.language.specs.Meanings.{WordAnswer, falls, gives, one, meaning, made, Cut, uneven, done, cut, addRow, onlyRow, cutRows, columns, widthOf}
 use Rattle.language.specs.declared.Meter.{Meter}
 use Rattle.language.specs.declared.Val.{Val}
-use Rattle.cells.specs.Cells.{Rep, Room, free}
+use Rattle.cells.specs.Cells.{Rep, free}
 use Rattle.cells.specs.Parts.{Sized, Headed, nthObj}
 use Rattle.lexer.specs.Vocabulary.{opCode}
-use Rattle.sequences.specs.Making.{Space, Stands, isRow, areRows, Rows, entryAt, columnAt, columnsAt, Columns}
+use Rattle.sequences.specs.Making.{isRow, areRows, Rows, entryAt, columnAt, columnsAt, Columns}
 use Rattle.sequences.proofs.Transposing.{and-first, and-second, length-columns}
-use Rattle.primitives.specs.Ends.{Gives, Sinks, Leaf}
+use Rattle.primitives.specs.Ends.{Leaf}
 use Rattle.primitives.specs.Asking.{Reserving}
-use Rattle.primitives.specs.declared.Ended.{Ended}
 use Rattle.primitives.specs.declared.Ended.the-variants.{Done, Stop}
 use Rattle.primitives.specs.declared.Reserved.{Reserved}
 use Rattle.primitives.specs.declared.Reserved.the-variants.{At, Short}
 use Rattle.primitives.proofs.Ending.{end-short, leaf-falls, free-under}
-use Rattle.primitives.proofs.Selected.{no-full, full-none, FullOf, full-of}
+use Rattle.primitives.proofs.Selected.{no-full, full-none, full-of}
 use Rattle.primitives.proofs.Made.{Got, got, short, kept, kept-sinks, space-at, end-stands}
 
 false-true : {A : Type 0} → false ≡ true → A
@@ -192,6 +190,7 @@ columns-uneven (x :: xs) (q :: qs) k e = go (cutRows q qs) refl (λ a b f. colum
   where
     rest : (b : Objs) → areRows (lengthOf xs) b ≡ areRows (suc (lengthOf xs)) (q :: qs) → areRows (lengthOf xs) (seq xs :: b) ≡ false
     rest b f = rw (eq-eqb (lengthOf xs) (lengthOf xs) refl, f) (rw (eq-eqb (suc (lengthOf xs)) (suc (lengthOf xs)) refl) at e)
+
     go : (c : Cut) → cutRows q qs ≡ c → ((a b : Objs) → areRows (lengthOf xs) b ≡ areRows (suc (lengthOf xs)) (q :: qs) → columns (suc (lengthOf xs)) (seq xs) b (λ cs. k (seq (x :: a) :: cs)) ≡ falls) → columns (suc (suc (lengthOf xs))) (seq (x :: xs)) (q :: qs) k ≡ falls
     go uneven f h = columns-by (suc (lengthOf xs)) (seq (x :: xs)) (q :: qs) k uneven (ap (addRow (seq (x :: xs))) f)
     go done f h = columns-by (suc (lengthOf xs)) (seq (x :: xs)) (q :: qs) k uneven (ap (addRow (seq (x :: xs))) f)
@@ -247,24 +246,30 @@ trans-gives w r rs e =
     columns-right w r rs (λ cs. made Op.trans (suc (lengthOf rs)) (lengthOf cs) (seq cs)) e ∙ ap (λ (j : ℕ). gives 0 (j + j * suc (lengthOf rs)) (seq (columnsAt 0 w (r :: rs)))) (length-columns 0 w (r :: rs))
 
 pub trans-short : {C : List ℕ} {v : Val} {m k : Meter} {n w : ℕ} {b : Bool} {q : Reserved} → v .tag ≡ 3 → Sized v n → (n ≡ 0 → ⊥) → Rows C v n w b → not b ≡ false → Reserving C 22 n w m q → q ≡ Short k → Leaf C v m (op Op.trans) (Stop 24 k) C
-trans-short {C} {m = m} {n = n} {w = w} {b = b} t s z g e a f = record { sinks = tt; means = λ x o r.
-    let u = free-under C m o in
-    let q = full-of u t s z r in
-    let i : n ≡ suc (lengthOf (q .others)) = s .means C (free C m) (q .first :: q .others) u (q .rep) in
-    let y : b ≡ areRows w (q .first :: q .others) = g .means (free C m) (q .first :: q .others) u (sym i) (q .rep) in
-    let d = rw i at (short Op.trans a f code-trans o) in
-    rw (q .is) (end-short (w + w * suc (lengthOf (q .others))) (seq (columnsAt 0 w (q .first :: q .others))) (trans-gives w (q .first) (q .others) (sym y ∙ not-false b e)) (d .0) (d .1)) }
+trans-short {C} {m = m} {n = n} {w = w} {b = b} t s z g e a f = record {
+  sinks = tt;
+  means = λ x o r.
+      let u = free-under C m o in
+      let q = full-of u t s z r in
+      let i : n ≡ suc (lengthOf (q .others)) = s .means C (free C m) (q .first :: q .others) u (q .rep) in
+      let y : b ≡ areRows w (q .first :: q .others) = g .means (free C m) (q .first :: q .others) u (sym i) (q .rep) in
+      let d = rw i at (short Op.trans a f code-trans o) in
+      rw (q .is) (end-short (w + w * suc (lengthOf (q .others))) (seq (columnsAt 0 w (q .first :: q .others))) (trans-gives w (q .first) (q .others) (sym y ∙ not-false b e)) (d .0) (d .1));
+}
 
 pub trans-is : {C C′ : List ℕ} {v c : Val} {m k : Meter} {n w p : ℕ} {b : Bool} {q : Reserved} → v .tag ≡ 3 → Sized v n → (n ≡ 0 → ⊥) → Rows C v n w b → not b ≡ false → Reserving C 22 n w m q → q ≡ At p k → Columns C v n w p c C′ → length C′ ≡ length C → Leaf C v m (op Op.trans) (Done c k) C′
-trans-is {C} {C′} {v} {c} {m} {k} {n} {w} {p} {b} t s z g e a f cl l = record { sinks = kept-sinks (kept a f); means = λ x o r.
-    let u = free-under C m o in
-    let q = full-of u t s z r in
-    let rs = q .first :: q .others in
-    let i : n ≡ suc (lengthOf (q .others)) = s .means C (free C m) rs u (q .rep) in
-    let y : b ≡ areRows w rs = g .means (free C m) rs u (sym i) (q .rep) in
-    let ev : areRows w rs ≡ true = sym y ∙ not-false b e in
-    let d : Got C (w + w * n) m p k = got Op.trans a f code-trans o in
-    let rp : Rep C p v (seq rs) = subst (λ (j : ℕ). Rep C j v (seq rs)) (sym (d .first)) (q .rep) in
-    let st = cl .means rs (sym i) ev (space-at o d) rp in
-    let gv : meaning one (op Op.trans) (seq rs) ≡ gives 0 (w + w * n) (seq (columnsAt 0 w rs)) = trans-gives w (q .first) (q .others) ev ∙ ap (λ (j : ℕ). gives 0 (w + w * j) (seq (columnsAt 0 w rs))) (sym i) in
-    rw (q .is) (end-stands (w + w * n) (columnsAt 0 w rs) o gv d l st) }
+trans-is {C} {C′} {v} {c} {m} {k} {n} {w} {p} {b} t s z g e a f cl l = record {
+  sinks = kept-sinks (kept a f);
+  means = λ x o r.
+      let u = free-under C m o in
+      let q = full-of u t s z r in
+      let rs = q .first :: q .others in
+      let i : n ≡ suc (lengthOf (q .others)) = s .means C (free C m) rs u (q .rep) in
+      let y : b ≡ areRows w rs = g .means (free C m) rs u (sym i) (q .rep) in
+      let ev : areRows w rs ≡ true = sym y ∙ not-false b e in
+      let d : Got C (w + w * n) m p k = got Op.trans a f code-trans o in
+      let rp : Rep C p v (seq rs) = subst (λ (j : ℕ). Rep C j v (seq rs)) (sym (d .first)) (q .rep) in
+      let st = cl .means rs (sym i) ev (space-at o d) rp in
+      let gv : meaning one (op Op.trans) (seq rs) ≡ gives 0 (w + w * n) (seq (columnsAt 0 w rs)) = trans-gives w (q .first) (q .others) ev ∙ ap (λ (j : ℕ). gives 0 (w + w * j) (seq (columnsAt 0 w rs))) (sym i) in
+      rw (q .is) (end-stands (w + w * n) (columnsAt 0 w rs) o gv d l st);
+}

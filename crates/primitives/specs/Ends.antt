@@ -1,7 +1,7 @@
 -- How an application on cells ends, and what its end says of the definition's outcome.
-use Prim.Native.Nat.{ℕ, zero, suc, _+_, _≤_}
+use Prim.Native.Nat.{ℕ, _≤_}
 use mathlib.Core.Path.{_≡_}
-use mathlib.Core.List.{List, [], _∷_}
+use mathlib.Core.List.{List}
 use lib.ListN.{length}
 use Rattle.language.specs.Objects.{Obj}
 use Rattle.language.specs.Forms.{Word}

@@ -15,7 +15,7 @@ use Rattle.sequences.specs.Making.{Built, allButLast}
 use Rattle.lexer.specs.Vocabulary.{opCode}
 use Rattle.primitives.specs.Ends.{Gives, Sinks, Leaf}
 use Rattle.primitives.specs.declared.Ended.{Ended}
-use Rattle.primitives.specs.declared.Ended.the-variants.{Done, Stop}
+use Rattle.primitives.specs.declared.Ended.the-variants.{Stop}
 
 -- the word w on a pair
 pub record LeafTwo (C : List ℕ) (a b : Val) (m : Meter) (w : Word) (r : Ended) (C′ : List ℕ) : Type 0 where

@@ -4,7 +4,7 @@ use mathlib.Core.Path.{_≡_}
 use mathlib.Core.Bool.{Bool, true, false, _&&_}
 use mathlib.Core.List.{List}
 use lib.Dec.{ltb}
-use Rattle.language.specs.Objects.{Obj, seq, Objs, nil, _::_, Truth, isT, isF, neither, truthOf}
+use Rattle.language.specs.Objects.{Obj, seq, nil, _::_, Truth, isT, isF, neither, truthOf}
 use Rattle.language.specs.Meanings.{WordAnswer, falls, onPair, isAtom, isNull}
 use Rattle.language.specs.declared.Val.{Val}
 use Rattle.cells.specs.Cells.{Rep}

@@ -2,10 +2,11 @@
 ghost use Rattle.language.specs.Forms.{op};
 ghost use Rattle.language.specs.Words.{Op};
 ghost use Rattle.primitives.specs.Leaves.{LeafTwo};
-use super::asking;
 use super::Ended;
 use super::Reserved;
-use language::{Meter, Val};
+use super::asking;
+use language::Meter;
+use language::Val;
 
 pub fn apndl(c: &mut [u32], a: Val, b: Val, m: Meter) -> Ended
     ensures { λ r. ⌜ LeafTwo (now (c .entry)) a b m (op Op.apndl) r (now (c .exit)) ⌝ }

@@ -3,7 +3,8 @@ ghost use mathlib.Core.Path.{_≡_};
 ghost use Prim.Native.Nat.{_<_};
 ghost use Rattle.primitives.specs.Asking.{CellsAsked, Clipped, Reserving};
 use super::Reserved;
-use language::{Charge, Meter};
+use language::Charge;
+use language::Meter;
 
 // How many cells a rule asks for, of n places and, for the last rule, of rows of w.
 fn cells_by(rule: u32, n: u64, w: u64) -> u64

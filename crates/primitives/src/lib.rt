@@ -1,6 +1,7 @@
 // The words of document 01's table on cells. A word gives bottom before it asks for cells, and asks for all of them at once.
 ghost use Rattle.primitives.specs.Leaves.{Coded, CodedPair, CodedTwo};
-use language::{Meter, Val};
+use language::Meter;
+use language::Val;
 
 mod appending;
 mod asking;

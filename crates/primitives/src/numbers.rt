@@ -6,7 +6,8 @@ ghost use Rattle.primitives.specs.Leaves.{PlainTwo};
 ghost use Rattle.primitives.specs.Shapes.{InRange};
 use super::Ended;
 use super::shapes;
-use language::{Meter, Val};
+use language::Meter;
+use language::Val;
 
 // The integer that z holds, or bottom where it is out of range.
 fn ranged(z: Val, m: Meter) -> Ended

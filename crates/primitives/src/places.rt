@@ -3,10 +3,11 @@ ghost use Rattle.language.specs.Forms.{op};
 ghost use Rattle.language.specs.Words.{Op};
 ghost use Rattle.primitives.specs.Ends.{Leaf};
 ghost use Rattle.primitives.specs.Leaves.{Plain, Arranged, Ordered};
-use super::asking;
 use super::Ended;
 use super::Reserved;
-use language::{Meter, Val};
+use super::asking;
+use language::Meter;
+use language::Val;
 
 pub fn tl(c: &[u32], v: Val, m: Meter) -> Ended
     ensures { λ r. ⌜ Leaf (now (c .entry)) v m (op Op.tl) r (now (c .entry)) ⌝ }
@@ -58,7 +59,8 @@ pub fn arrange(code: u32, c: &mut [u32], v: Val, m: Meter) -> Ended
 pub fn tlr(c: &mut [u32], v: Val, m: Meter) -> Ended
     ensures { λ r. ⌜ Leaf (now (c .entry)) v m (op Op.tlr) r (now (c .exit)) ⌝ }
 {
-    if cells::size(v) == 0 {
+    let n = cells::size(v);
+    if n == 0 {
         return Ended::Stop(21, m);
     }
     arrange(15, c, v, m)

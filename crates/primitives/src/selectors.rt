@@ -2,7 +2,8 @@
 ghost use Rattle.language.specs.Forms.{select as fromLeft, selectRight as fromRight};
 ghost use Rattle.primitives.specs.Ends.{Leaf};
 use super::Ended;
-use language::{Meter, Val};
+use language::Meter;
+use language::Val;
 
 // The place k, counted from 1.
 pub fn select(c: &[u32], k: u32, v: Val, m: Meter) -> Ended

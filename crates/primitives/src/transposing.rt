@@ -2,10 +2,11 @@
 ghost use Rattle.language.specs.Forms.{op};
 ghost use Rattle.language.specs.Words.{Op};
 ghost use Rattle.primitives.specs.Ends.{Leaf};
-use super::asking;
 use super::Ended;
 use super::Reserved;
-use language::{Meter, Val};
+use super::asking;
+use language::Meter;
+use language::Val;
 
 // The columns of rows of equal length; bottom where there is no row, or the rows are unequal.
 pub fn trans(c: &mut [u32], v: Val, m: Meter) -> Ended

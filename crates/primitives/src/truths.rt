@@ -5,7 +5,8 @@ ghost use Rattle.primitives.specs.Leaves.{LeafTwo, Plain, PlainTwo};
 use super::Ended;
 use super::shapes;
 use equality::Compared;
-use language::{Meter, Val};
+use language::Meter;
+use language::Val;
 
 pub fn atom(v: Val, m: Meter) -> Ended
     ensures { λ r. ⌜ Plain v m (op Op.atom) r ⌝ }

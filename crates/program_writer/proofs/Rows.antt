@@ -30,9 +30,6 @@ use Rattle.program_writer.specs.Layout.{takesPart, takesKind, opening, b
 use Rattle.program_writer.specs.Walks.{Wrote, NameWalked, ConstantWalked, MarkBehind, OpeningMark, Writable, BehindWalked, PlainWalked, OpeningWalked, EndingWalked}
 use Rattle.program_writer.proofs.Wrote.{wrote-none, wrote-then, wrote-as}
 
-never : {A : Type 0} {b : ℕ} {m : ℕ} → b ≡ m → (b ≡ m → ⊥) → A
-never e h = absurd (h e)
-
 -- ---- values
 pub val-same : (v u : Val) → v .tag ≡ u .tag → v .word ≡ u .word → v ≡ u
 val-same v u e f = ap₂ (λ (a b : ℕ). record { tag = a; word = b }) e f

@@ -1,17 +1,16 @@
 -- Sequences made from the last place to the first: what is made stands in the cells, what is left is still to be made.
-use Prim.Native.Nat.{ℕ, zero, suc, _+_, _-_, _*_, _/_, _%_, _≤_, _<_}
-use mathlib.Core.Path.{_≡_, refl, sym, ap, ap₂, subst, _∙_}
+use Prim.Native.Nat.{ℕ, zero, suc, _+_, _-_, _*_, _%_, _≤_, _<_}
+use mathlib.Core.Path.{_≡_, refl, sym, ap, subst, _∙_}
 use mathlib.Core.Bool.{Bool, true, false}
-use mathlib.Core.List.{List, [], _∷_}
+use mathlib.Core.List.{List}
 use native.Mathlib.Omega.{arith}
-use native.Mathlib.Numerals.{add-one}
 use lib.ListN.{length}
 use Rattle.language.specs.Objects.{Obj, seq, Objs, nil, _::_, lengthOf, _+++_}
 use Rattle.language.specs.Meanings.{dropLast, lastOf, turnedOnto, turned, toLeft, toRight}
 use Rattle.language.specs.declared.Val.{Val}
 use Rattle.cells.specs.Cells.{Rep, rep-nil, rep-more, Same, sequenceVal, cellPut}
-use Rattle.cells.specs.Parts.{sizeOf, nthObj, Sized, Headed, Tailed, Nth, Paired}
-use Rattle.cells.proofs.Reps.{val-same, same-refl, same-trans, same-fewer, rep-ext, length-cell, cell-same, rep-new}
+use Rattle.cells.specs.Parts.{nthObj, Sized, Headed, Tailed, Nth, Paired}
+use Rattle.cells.proofs.Reps.{val-same, same-refl, same-trans, rep-ext, cell-same, rep-new}
 use Rattle.sequences.specs.Making.{Space, Stands, Before, takeObjs, Prepended, Built, allButLast, side, sides, Joined, Shared}
 use Rattle.sequences.proofs.Counts.{few-places}
 use Rattle.sequences.proofs.Parts.{append-nil, append-more, length-append-one, take-all, take-length, take-next, nth-take, nth-last, take-but-last, length-but-last}

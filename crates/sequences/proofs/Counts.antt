@@ -1,15 +1,15 @@
 -- A sequence has at most as many places as there are cells: no cell stands for two of its places.
-use Prim.Native.Nat.{ℕ, zero, suc, _+_, _-_, _*_, _%_, _≤_, _<_}
-use mathlib.Core.Path.{_≡_, refl, sym, ap, subst, _∙_}
+use Prim.Native.Nat.{ℕ, zero, suc, _+_, _*_, _%_, _≤_, _<_}
+use mathlib.Core.Path.{_≡_, refl, ap, subst}
 use mathlib.Core.Bool.{Bool, true, false, cond}
 use mathlib.Core.List.{List, [], _∷_}
 use native.Mathlib.Omega.{arith}
 use lib.Dec.{eqb}
 use lib.ListN.{length}
 use borrow.Author.Tests.{eqb-true, eqb-false}
-use Rattle.language.specs.Objects.{Obj, seq, Objs, nil, _::_, lengthOf}
+use Rattle.language.specs.Objects.{seq, Objs, lengthOf}
 use Rattle.language.specs.declared.Val.{Val}
-use Rattle.cells.specs.Cells.{Rep, rep-nil, rep-more, sequenceVal, nextAt}
+use Rattle.cells.specs.Cells.{Rep, rep-nil, rep-more, nextAt}
 
 -- ---- different numbers below n: at most n
 data Below (n : ℕ) : List ℕ → Type 0 where
@@ -60,12 +60,15 @@ removed n (p ∷ ps) (a-below l b) (an-apart h a) = go (eqb p n) refl (removed n
       where
         under : (p ≡ n → ⊥) → p < n
         under k = omega (arith, k)
+
     apart-as : (t : Bool) → Removed n ps → Apart (cond t ps (p ∷ without n ps))
     apart-as true r = a
     apart-as false r = an-apart (not-in-rest n h) (r .apart)
+
     few-as : (t : Bool) → Removed n ps → length (p ∷ ps) ≤ suc (length (cond t ps (p ∷ without n ps)))
     few-as true r = omega arith
     few-as false r = omega (arith, r .few)
+
     go : (t : Bool) → eqb p n ≡ t → Removed n ps → Removed n (p ∷ ps)
     go t e r = record { below = rw e (below-as t e r); apart = rw e (apart-as t r); few = rw e (few-as t r) }
 

@@ -2,18 +2,18 @@
 use Prim.Native.Nat.{ℕ, zero, suc, _+_, _-_, _*_, _≤_, _<_}
 use mathlib.Core.Path.{_≡_, refl, sym, ap, subst, _∙_}
 use mathlib.Core.Bool.{Bool, true, false, _&&_, not}
-use mathlib.Core.List.{List, [], _∷_}
+use mathlib.Core.List.{List}
 use native.Mathlib.Omega.{arith}
 use native.Mathlib.Nat.{suc-mul}
 use lib.Dec.{eqb}
 use lib.ListN.{length}
 use borrow.Author.Tests.{eq-eqb, ne-eqb, eqb-true, eqb-false, not-true, not-false}
-use Rattle.language.specs.Objects.{Obj, int, symbol, seq, Objs, nil, _::_, lengthOf, _+++_}
+use Rattle.language.specs.Objects.{Obj, int, symbol, seq, Objs, nil, _::_, lengthOf}
 use Rattle.language.specs.declared.Val.{Val}
-use Rattle.cells.specs.Cells.{Rep, rep-pos, rep-neg, rep-symbol, rep-nil, rep-more, Same, sequenceVal}
+use Rattle.cells.specs.Cells.{Rep, rep-pos, rep-neg, rep-symbol, rep-nil, rep-more, sequenceVal}
 use Rattle.cells.specs.Parts.{nthObj, Sized, Headed, Tailed, Nth}
-use Rattle.cells.proofs.Reps.{same-refl, same-trans, rep-ext}
-use Rattle.sequences.specs.Making.{Space, Stands, Before, takeObjs, isRow, areRows, Rows, entryAt, columnAt, columnsAt, Column, Columns}
+use Rattle.cells.proofs.Reps.{same-refl, rep-ext}
+use Rattle.sequences.specs.Making.{Space, Before, isRow, areRows, Rows, entryAt, columnAt, columnsAt, Column, Columns}
 use Rattle.sequences.proofs.Parts.{append-nil}
 use Rattle.sequences.proofs.Building.{Building, build-start, build-step, build-end, stands-as, nil-rep}
 

@@ -1,12 +1,12 @@
 -- Sequences made in new cells: what the functions that make them answer, said of the objects that the values stand for.
-use Prim.Native.Nat.{ℕ, zero, suc, _+_, _-_, _*_, _≤_, _<_}
+use Prim.Native.Nat.{ℕ, zero, suc, _+_, _*_, _≤_, _<_}
 use mathlib.Core.Path.{_≡_}
 use mathlib.Core.Bool.{Bool, true, false, _&&_}
 use mathlib.Core.List.{List}
 use lib.Dec.{eqb}
 use lib.ListN.{length}
 use Rattle.language.specs.Objects.{Obj, int, symbol, seq, Objs, nil, _::_, lengthOf, _+++_}
-use Rattle.language.specs.Meanings.{dropLast, pair, withLeft, withRight}
+use Rattle.language.specs.Meanings.{dropLast, pair}
 use Rattle.language.specs.declared.Val.{Val}
 use Rattle.cells.specs.Cells.{Rep, Same}
 use Rattle.cells.specs.Parts.{nthObj}

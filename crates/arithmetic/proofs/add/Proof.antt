@@ -1,11 +1,8 @@
-use native.Mathlib.Omega.{arith}
+-- `add` gives the sum.
 use borrow.Author.Needs.{needs}
 use Rattle.arithmetic.proofs.Signs.{add-alike, add-first, add-second}
 use Rattle.arithmetic.proofs.add.Statement.{statement}
 use Rattle.arithmetic.proofs.add.Tie as tie
-use Rattle.arithmetic.proofs.add.Reads as reads
-use Rattle.arithmetic.proofs.add.Lts as lts
-use Rattle.arithmetic.proofs.difference.Reads as difference-reads
 
 -- word: x + y + a.tag as u64,
 add-t6 : tie.Need-add-t6

@@ -1,10 +1,8 @@
-use native.Mathlib.Omega.{arith}
+-- `difference` gives x - y.
 use borrow.Author.Needs.{needs}
 use Rattle.arithmetic.proofs.Signs.{difference-above, difference-below}
 use Rattle.arithmetic.proofs.difference.Statement.{statement}
 use Rattle.arithmetic.proofs.difference.Tie as tie
-use Rattle.arithmetic.proofs.difference.Reads as reads
-use Rattle.arithmetic.proofs.difference.Lts as lts
 
 -- word: y - x - 1,
 sub-t4 : tie.Need-sub-t4

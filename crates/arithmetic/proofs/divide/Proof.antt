@@ -1,13 +1,8 @@
-use native.Mathlib.Omega.{arith}
+-- `divide` gives the quotient, cut toward zero.
 use borrow.Author.Needs.{needs}
 use Rattle.arithmetic.proofs.Signs.{divide-alike, divide-apart}
 use Rattle.arithmetic.proofs.divide.Statement.{statement}
 use Rattle.arithmetic.proofs.divide.Tie as tie
-use Rattle.arithmetic.proofs.divide.Reads as reads
-use Rattle.arithmetic.proofs.divide.Lts as lts
-use Rattle.arithmetic.proofs.magnitude.Reads as magnitude-reads
-use Rattle.arithmetic.proofs.negative.Reads as negative-reads
-use Rattle.arithmetic.proofs.positive.Reads as positive-reads
 
 -- let n = magnitude(a) / magnitude(b);
 magnitude-requires : tie.Need-magnitude-requires

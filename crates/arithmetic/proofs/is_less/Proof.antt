@@ -1,10 +1,7 @@
-use borrow.Author.Needs.{needs}
-use native.Mathlib.Omega.{arith}
+-- `is_less` tells whether a is less than b.
 use Rattle.arithmetic.proofs.Signs.{less-apart, less-first, less-second}
 use Rattle.arithmetic.proofs.is_less.Statement.{statement}
 use Rattle.arithmetic.proofs.is_less.Tie as tie
-use Rattle.arithmetic.proofs.is_less.Reads as reads
-use Rattle.arithmetic.proofs.is_less.Lts as lts
 
 -- return a.word < b.word;
 returns : tie.Need-returns

@@ -1,13 +1,8 @@
-use native.Mathlib.Omega.{arith}
+-- `multiply` gives the product.
 use borrow.Author.Needs.{needs}
 use Rattle.arithmetic.proofs.Signs.{multiply-alike, multiply-apart, product-fits}
 use Rattle.arithmetic.proofs.multiply.Statement.{statement}
 use Rattle.arithmetic.proofs.multiply.Tie as tie
-use Rattle.arithmetic.proofs.multiply.Reads as reads
-use Rattle.arithmetic.proofs.multiply.Lts as lts
-use Rattle.arithmetic.proofs.magnitude.Reads as magnitude-reads
-use Rattle.arithmetic.proofs.negative.Reads as negative-reads
-use Rattle.arithmetic.proofs.positive.Reads as positive-reads
 
 -- let n = magnitude(a) * magnitude(b);
 magnitude-requires : tie.Need-magnitude-requires

@@ -1,10 +1,8 @@
-use native.Mathlib.Omega.{arith}
+-- `negative` gives -n.
 use borrow.Author.Needs.{needs}
 use Rattle.arithmetic.proofs.Signs.{negative-more, negative-zero}
 use Rattle.arithmetic.proofs.negative.Statement.{statement}
 use Rattle.arithmetic.proofs.negative.Tie as tie
-use Rattle.arithmetic.proofs.negative.Reads as reads
-use Rattle.arithmetic.proofs.negative.Lts as lts
 
 -- return Val { tag: 0, word: 0 };
 returns : tie.Need-returns

@@ -1,10 +1,7 @@
-use borrow.Author.Needs.{needs}
-use native.Mathlib.Omega.{arith}
+-- `positive` gives n.
 use Rattle.arithmetic.proofs.Signs.{pos-is}
 use Rattle.arithmetic.proofs.positive.Statement.{statement}
 use Rattle.arithmetic.proofs.positive.Tie as tie
-use Rattle.arithmetic.proofs.positive.Reads as reads
-use Rattle.arithmetic.proofs.positive.Lts as lts
 
 -- pub fn positive(n: u64) -> Val
 returns : tie.Need-returns

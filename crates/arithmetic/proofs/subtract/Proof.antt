@@ -1,12 +1,8 @@
-use native.Mathlib.Omega.{arith}
+-- `subtract` gives the difference.
 use borrow.Author.Needs.{needs}
 use Rattle.arithmetic.proofs.Signs.{subtract-is}
 use Rattle.arithmetic.proofs.subtract.Statement.{statement}
 use Rattle.arithmetic.proofs.subtract.Tie as tie
-use Rattle.arithmetic.proofs.subtract.Reads as reads
-use Rattle.arithmetic.proofs.subtract.Lts as lts
-use Rattle.arithmetic.proofs.add.Reads as add-reads
-use Rattle.arithmetic.proofs.negated.Reads as negated-reads
 
 -- add(a, negated(b))
 negated-requires : tie.Need-negated-requires

@@ -1,7 +1,7 @@
+-- `same` and `places` look as the definition does; the measure is twice the steps left, and one more for places.
 use borrow.Author.Needs.{needs}
-use native.Mathlib.Omega.{arith}
 use Prim.Native.Nat.{ℕ, _+_, _*_, _<_}
-use Rattle.equality.proofs.Comparisons.{look-out, look-equal, look-differ, look-apart, look-places, Placing, place-start, place-next, place-differ, place-out, place-longer, place-shorter, place-end, below-look, below-places, look-fell}
+use Rattle.equality.proofs.Comparisons.{look-out, look-equal, look-differ, look-apart, look-places, Placing, place-start, place-next, place-differ, place-out, place-longer, place-shorter, place-end, below-look, look-fell}
 use borrow.Fn.Kinds.{In}
 use borrow.Fn.PlainCycle.{Measures, is, falls, and}
 use Rattle.equality.proofs.places.Reads as places

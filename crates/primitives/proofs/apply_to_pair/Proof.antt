@@ -1,12 +1,8 @@
-use native.Mathlib.Omega.{arith}
+-- `apply_to_pair` answers as the word with the code means, bottom for what is no pair.
 use borrow.Author.Needs.{needs}
 use Rattle.primitives.proofs.Dispatched.{pair-none, pair-both}
 use Rattle.primitives.proofs.apply_to_pair.Statement.{statement}
 use Rattle.primitives.proofs.apply_to_pair.Tie as tie
-use Rattle.primitives.proofs.apply_to_pair.Reads as reads
-use Rattle.primitives.proofs.apply_to_pair.Lts as lts
-use Rattle.primitives.proofs.apply_to_two.Reads as apply-to-two-reads
-use Rattle.primitives.proofs.shapes.two.Reads as two-reads
 
 -- match shapes::two(c, v) {
 two-requires : tie.Need-two-requires

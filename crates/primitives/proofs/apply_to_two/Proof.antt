@@ -1,22 +1,8 @@
-use native.Mathlib.Omega.{arith}
+-- `apply_to_two` answers as the word with the code means of a pair.
 use borrow.Author.Needs.{needs}
 use Rattle.primitives.proofs.Dispatched.{word-eq, word-lt, word-add, word-sub, word-mul, word-div, word-and, word-or, word-apndl, word-apndr, word-distl, word-distr, two-none}
 use Rattle.primitives.proofs.apply_to_two.Statement.{statement}
 use Rattle.primitives.proofs.apply_to_two.Tie as tie
-use Rattle.primitives.proofs.apply_to_two.Reads as reads
-use Rattle.primitives.proofs.apply_to_two.Lts as lts
-use Rattle.primitives.proofs.appending.apndl.Reads as apndl-reads
-use Rattle.primitives.proofs.appending.apndr.Reads as apndr-reads
-use Rattle.primitives.proofs.appending.distl.Reads as distl-reads
-use Rattle.primitives.proofs.appending.distr.Reads as distr-reads
-use Rattle.primitives.proofs.numbers.add.Reads as add-reads
-use Rattle.primitives.proofs.numbers.div.Reads as div-reads
-use Rattle.primitives.proofs.numbers.lt.Reads as lt-reads
-use Rattle.primitives.proofs.numbers.mul.Reads as mul-reads
-use Rattle.primitives.proofs.numbers.sub.Reads as sub-reads
-use Rattle.primitives.proofs.truths.and.Reads as and-reads
-use Rattle.primitives.proofs.truths.eq.Reads as eq-reads
-use Rattle.primitives.proofs.truths.or.Reads as or-reads
 
 -- 4 => truths::eq(c, a, b, m),
 eq-requires : tie.Need-eq-requires

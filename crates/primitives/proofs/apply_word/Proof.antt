@@ -1,19 +1,8 @@
-use native.Mathlib.Omega.{arith}
+-- `apply_word` answers as the word with the code means.
 use borrow.Author.Needs.{needs}
 use Rattle.primitives.proofs.Dispatched.{word-id, word-tl, word-atom, word-null, word-length, word-not, word-tlr, word-reverse, word-rotl, word-rotr, word-trans, coded-pair}
 use Rattle.primitives.proofs.apply_word.Statement.{statement}
 use Rattle.primitives.proofs.apply_word.Tie as tie
-use Rattle.primitives.proofs.apply_word.Reads as reads
-use Rattle.primitives.proofs.apply_word.Lts as lts
-use Rattle.primitives.proofs.apply_to_pair.Reads as apply-to-pair-reads
-use Rattle.primitives.proofs.places.arrange.Reads as arrange-reads
-use Rattle.primitives.proofs.places.length.Reads as length-reads
-use Rattle.primitives.proofs.places.tl.Reads as tl-reads
-use Rattle.primitives.proofs.places.tlr.Reads as tlr-reads
-use Rattle.primitives.proofs.transposing.trans.Reads as trans-reads
-use Rattle.primitives.proofs.truths.atom.Reads as atom-reads
-use Rattle.primitives.proofs.truths.not.Reads as not-reads
-use Rattle.primitives.proofs.truths.null.Reads as null-reads
 
 -- 1 => places::tl(c, v, m),
 tl-requires : tie.Need-tl-requires

@@ -1,13 +1,8 @@
-use native.Mathlib.Omega.{arith}
+-- `apndl` answers as its word means.
 use borrow.Author.Needs.{needs}
 use Rattle.primitives.proofs.Made.{apndl-atom, apndl-short, apndl-is}
 use Rattle.primitives.proofs.appending.apndl.Statement.{statement}
 use Rattle.primitives.proofs.appending.apndl.Tie as tie
-use Rattle.primitives.proofs.appending.apndl.Reads as reads
-use Rattle.primitives.proofs.appending.apndl.Lts as lts
-use Rattle.cells.proofs.size.Reads as size-reads
-use Rattle.primitives.proofs.asking.reserve.Reads as reserve-reads
-use Rattle.sequences.proofs.put_before.Reads as put-before-reads
 
 -- return Ended::Stop(21, m);
 returns : tie.Need-returns

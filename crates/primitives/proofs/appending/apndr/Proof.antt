@@ -1,15 +1,8 @@
-use native.Mathlib.Omega.{arith}
+-- `apndr` answers as its word means.
 use borrow.Author.Needs.{needs}
 use Rattle.primitives.proofs.Made.{apndr-atom, apndr-short, apndr-is, low-next}
 use Rattle.primitives.proofs.appending.apndr.Statement.{statement}
 use Rattle.primitives.proofs.appending.apndr.Tie as tie
-use Rattle.primitives.proofs.appending.apndr.Reads as reads
-use Rattle.primitives.proofs.appending.apndr.Lts as lts
-use Rattle.cells.proofs.sequence.Reads as sequence-reads
-use Rattle.cells.proofs.size.Reads as size-reads
-use Rattle.primitives.proofs.asking.reserve.Reads as reserve-reads
-use Rattle.sequences.proofs.prepended.Reads as prepended-reads
-use Rattle.sequences.proofs.put_before.Reads as put-before-reads
 
 -- return Ended::Stop(21, m);
 returns : tie.Need-returns

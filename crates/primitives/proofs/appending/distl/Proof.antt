@@ -1,13 +1,8 @@
-use native.Mathlib.Omega.{arith}
+-- `distl` answers as its word means.
 use borrow.Author.Needs.{needs}
 use Rattle.primitives.proofs.Made.{distl-atom, distl-short, distl-is}
 use Rattle.primitives.proofs.appending.distl.Statement.{statement}
 use Rattle.primitives.proofs.appending.distl.Tie as tie
-use Rattle.primitives.proofs.appending.distl.Reads as reads
-use Rattle.primitives.proofs.appending.distl.Lts as lts
-use Rattle.cells.proofs.size.Reads as size-reads
-use Rattle.primitives.proofs.asking.reserve.Reads as reserve-reads
-use Rattle.sequences.proofs.shared.Reads as shared-reads
 
 -- return Ended::Stop(21, m);
 returns : tie.Need-returns

@@ -1,10 +1,8 @@
-use native.Mathlib.Omega.{arith}
+-- `cells_by` gives the cells that the rule asks for.
 use borrow.Author.Needs.{needs}
 use Rattle.primitives.proofs.Asked.{asked-none-less, asked-one, asked-less, asked-n, asked-more, asked-three, asked-rows, asked-none, product-fits, rows-fit}
 use Rattle.primitives.proofs.asking.cells_by.Statement.{statement}
 use Rattle.primitives.proofs.asking.cells_by.Tie as tie
-use Rattle.primitives.proofs.asking.cells_by.Reads as reads
-use Rattle.primitives.proofs.asking.cells_by.Lts as lts
 
 -- return 0;
 returns : tie.Need-returns

@@ -1,15 +1,8 @@
-use native.Mathlib.Omega.{arith}
+-- `reserve` takes the cells of the word, or none.
 use borrow.Author.Needs.{needs}
 use Rattle.primitives.proofs.Asked.{reserve-far, reserve-short, reserve-at}
 use Rattle.primitives.proofs.asking.reserve.Statement.{statement}
 use Rattle.primitives.proofs.asking.reserve.Tie as tie
-use Rattle.primitives.proofs.asking.reserve.Reads as reads
-use Rattle.primitives.proofs.asking.reserve.Lts as lts
-use Rattle.cells.proofs.free_cell.Reads as free-cell-reads
-use Rattle.language.proofs.Meter.charge_cells.Reads as charge-cells-reads
-use Rattle.lexer.proofs.cell_rule.Reads as cell-rule-reads
-use Rattle.primitives.proofs.asking.cells_by.Reads as cells-by-reads
-use Rattle.primitives.proofs.asking.clipped.Reads as clipped-reads
 
 -- let p = cells::free_cell(c, m);
 free-cell-requires : tie.Need-free-cell-requires

@@ -1,14 +1,9 @@
-use native.Mathlib.Omega.{arith}
+-- `add` answers as its word means.
 use borrow.Author.Needs.{needs}
 use Rattle.primitives.proofs.Numbered.{first-no, second-no, on-add, add-end}
 use Rattle.primitives.proofs.Shaped.{short-of, small-of}
 use Rattle.primitives.proofs.numbers.add.Statement.{statement}
 use Rattle.primitives.proofs.numbers.add.Tie as tie
-use Rattle.primitives.proofs.numbers.add.Reads as reads
-use Rattle.primitives.proofs.numbers.add.Lts as lts
-use Rattle.arithmetic.proofs.add.Reads as add-reads
-use Rattle.primitives.proofs.numbers.ranged.Reads as ranged-reads
-use Rattle.primitives.proofs.shapes.is_integer.Reads as is-integer-reads
 
 -- if !shapes::is_integer(a) {
 is-integer-requires : tie.Need-is-integer-requires

@@ -1,14 +1,9 @@
-use native.Mathlib.Omega.{arith}
+-- `div` answers as its word means.
 use borrow.Author.Needs.{needs}
 use Rattle.primitives.proofs.Numbered.{first-no, second-no, on-div, div-zero, div-end, not-zero, sum-fits}
 use Rattle.primitives.proofs.Shaped.{short-of, small-of}
 use Rattle.primitives.proofs.numbers.div.Statement.{statement}
 use Rattle.primitives.proofs.numbers.div.Tie as tie
-use Rattle.primitives.proofs.numbers.div.Reads as reads
-use Rattle.primitives.proofs.numbers.div.Lts as lts
-use Rattle.arithmetic.proofs.divide.Reads as divide-reads
-use Rattle.primitives.proofs.numbers.ranged.Reads as ranged-reads
-use Rattle.primitives.proofs.shapes.is_integer.Reads as is-integer-reads
 
 -- if !shapes::is_integer(a) {
 is-integer-requires : tie.Need-is-integer-requires

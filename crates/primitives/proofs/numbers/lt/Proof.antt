@@ -1,14 +1,9 @@
-use native.Mathlib.Omega.{arith}
+-- `lt` answers as its word means.
 use borrow.Author.Needs.{needs}
 use Rattle.primitives.proofs.Numbered.{first-no, second-no, on-lt, lt-end}
 use Rattle.primitives.proofs.Shaped.{short-of}
 use Rattle.primitives.proofs.numbers.lt.Statement.{statement}
 use Rattle.primitives.proofs.numbers.lt.Tie as tie
-use Rattle.primitives.proofs.numbers.lt.Reads as reads
-use Rattle.primitives.proofs.numbers.lt.Lts as lts
-use Rattle.arithmetic.proofs.is_less.Reads as is-less-reads
-use Rattle.primitives.proofs.shapes.is_integer.Reads as is-integer-reads
-use Rattle.primitives.proofs.shapes.truth.Reads as truth-reads
 
 -- if !shapes::is_integer(a) {
 is-integer-requires : tie.Need-is-integer-requires

@@ -1,14 +1,9 @@
-use native.Mathlib.Omega.{arith}
+-- `mul` answers as its word means.
 use borrow.Author.Needs.{needs}
 use Rattle.primitives.proofs.Numbered.{first-no, second-no, on-mul, mul-end}
 use Rattle.primitives.proofs.Shaped.{short-of, small-of}
 use Rattle.primitives.proofs.numbers.mul.Statement.{statement}
 use Rattle.primitives.proofs.numbers.mul.Tie as tie
-use Rattle.primitives.proofs.numbers.mul.Reads as reads
-use Rattle.primitives.proofs.numbers.mul.Lts as lts
-use Rattle.arithmetic.proofs.multiply.Reads as multiply-reads
-use Rattle.primitives.proofs.numbers.ranged.Reads as ranged-reads
-use Rattle.primitives.proofs.shapes.is_integer.Reads as is-integer-reads
 
 -- if !shapes::is_integer(a) {
 is-integer-requires : tie.Need-is-integer-requires

@@ -1,10 +1,7 @@
-use borrow.Author.Needs.{needs}
-use native.Mathlib.Omega.{arith}
+-- `ranged` gives an integer in range, else bottom.
 use Rattle.primitives.proofs.Numbered.{range-above, range-below}
 use Rattle.primitives.proofs.numbers.ranged.Statement.{statement}
 use Rattle.primitives.proofs.numbers.ranged.Tie as tie
-use Rattle.primitives.proofs.numbers.ranged.Reads as reads
-use Rattle.primitives.proofs.numbers.ranged.Lts as lts
 
 -- return Ended::Stop(21, m);
 returns : tie.Need-returns

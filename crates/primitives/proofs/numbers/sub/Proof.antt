@@ -1,14 +1,9 @@
-use native.Mathlib.Omega.{arith}
+-- `sub` answers as its word means.
 use borrow.Author.Needs.{needs}
 use Rattle.primitives.proofs.Numbered.{first-no, second-no, on-sub, sub-end}
 use Rattle.primitives.proofs.Shaped.{short-of}
 use Rattle.primitives.proofs.numbers.sub.Statement.{statement}
 use Rattle.primitives.proofs.numbers.sub.Tie as tie
-use Rattle.primitives.proofs.numbers.sub.Reads as reads
-use Rattle.primitives.proofs.numbers.sub.Lts as lts
-use Rattle.arithmetic.proofs.subtract.Reads as subtract-reads
-use Rattle.primitives.proofs.numbers.ranged.Reads as ranged-reads
-use Rattle.primitives.proofs.shapes.is_integer.Reads as is-integer-reads
 
 -- if !shapes::is_integer(a) {
 is-integer-requires : tie.Need-is-integer-requires

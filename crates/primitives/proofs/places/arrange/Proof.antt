@@ -1,13 +1,8 @@
-use native.Mathlib.Omega.{arith}
+-- `arrange` answers as the word with the code means of a sequence.
 use borrow.Author.Needs.{needs}
 use Rattle.primitives.proofs.Made.{order-atom, order-short, order-is}
 use Rattle.primitives.proofs.places.arrange.Statement.{statement}
 use Rattle.primitives.proofs.places.arrange.Tie as tie
-use Rattle.primitives.proofs.places.arrange.Reads as reads
-use Rattle.primitives.proofs.places.arrange.Lts as lts
-use Rattle.cells.proofs.size.Reads as size-reads
-use Rattle.primitives.proofs.asking.reserve.Reads as reserve-reads
-use Rattle.primitives.proofs.places.arranged.Reads as arranged-reads
 
 -- return Ended::Stop(21, m);
 returns : tie.Need-returns

@@ -1,14 +1,8 @@
-use native.Mathlib.Omega.{arith}
+-- `arranged` gives the places in the order that the code says.
 use borrow.Author.Needs.{needs}
 use Rattle.primitives.proofs.Made.{arranged-tlr, arranged-reverse, arranged-rotl, arranged-rotr}
 use Rattle.primitives.proofs.places.arranged.Statement.{statement}
 use Rattle.primitives.proofs.places.arranged.Tie as tie
-use Rattle.primitives.proofs.places.arranged.Reads as reads
-use Rattle.primitives.proofs.places.arranged.Lts as lts
-use Rattle.sequences.proofs.left_turned.Reads as left-turned-reads
-use Rattle.sequences.proofs.right_turned.Reads as right-turned-reads
-use Rattle.sequences.proofs.turned.Reads as turned-reads
-use Rattle.sequences.proofs.without_last.Reads as without-last-reads
 
 -- 15 => sequences::without_last(c, v, n, p),
 without-last-requires : tie.Need-without-last-requires

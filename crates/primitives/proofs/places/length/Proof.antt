@@ -1,12 +1,8 @@
-use native.Mathlib.Omega.{arith}
+-- `length` answers as its word means.
 use borrow.Author.Needs.{needs}
 use Rattle.primitives.proofs.Selected.{length-atom, length-is}
 use Rattle.primitives.proofs.places.length.Statement.{statement}
 use Rattle.primitives.proofs.places.length.Tie as tie
-use Rattle.primitives.proofs.places.length.Reads as reads
-use Rattle.primitives.proofs.places.length.Lts as lts
-use Rattle.arithmetic.proofs.positive.Reads as positive-reads
-use Rattle.cells.proofs.size.Reads as size-reads
 
 -- return Ended::Stop(21, m);
 returns : tie.Need-returns

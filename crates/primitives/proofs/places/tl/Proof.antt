@@ -1,12 +1,8 @@
-use native.Mathlib.Omega.{arith}
+-- `tl` answers as its word means.
 use borrow.Author.Needs.{needs}
 use Rattle.primitives.proofs.Selected.{tl-atom, tl-none, tl-is}
 use Rattle.primitives.proofs.places.tl.Statement.{statement}
 use Rattle.primitives.proofs.places.tl.Tie as tie
-use Rattle.primitives.proofs.places.tl.Reads as reads
-use Rattle.primitives.proofs.places.tl.Lts as lts
-use Rattle.cells.proofs.size.Reads as size-reads
-use Rattle.cells.proofs.tail.Reads as tail-reads
 
 -- return Ended::Stop(21, m);
 returns : tie.Need-returns

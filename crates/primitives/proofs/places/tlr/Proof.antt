@@ -1,12 +1,8 @@
-use native.Mathlib.Omega.{arith}
+-- `tlr` answers as its word means.
 use borrow.Author.Needs.{needs}
 use Rattle.primitives.proofs.Made.{tlr-none, tlr-is}
 use Rattle.primitives.proofs.places.tlr.Statement.{statement}
 use Rattle.primitives.proofs.places.tlr.Tie as tie
-use Rattle.primitives.proofs.places.tlr.Reads as reads
-use Rattle.primitives.proofs.places.tlr.Lts as lts
-use Rattle.cells.proofs.size.Reads as size-reads
-use Rattle.primitives.proofs.places.arrange.Reads as arrange-reads
 
 -- if cells::size(v) == 0 {
 size-requires : tie.Need-size-requires

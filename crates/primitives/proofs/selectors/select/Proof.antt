@@ -1,12 +1,8 @@
-use native.Mathlib.Omega.{arith}
+-- `select` answers as the selector k means.
 use borrow.Author.Needs.{needs}
 use Rattle.primitives.proofs.Selected.{select-atom, select-zero, select-far, select-is}
 use Rattle.primitives.proofs.selectors.select.Statement.{statement}
 use Rattle.primitives.proofs.selectors.select.Tie as tie
-use Rattle.primitives.proofs.selectors.select.Reads as reads
-use Rattle.primitives.proofs.selectors.select.Lts as lts
-use Rattle.cells.proofs.nth.Reads as nth-reads
-use Rattle.cells.proofs.size.Reads as size-reads
 
 -- return Ended::Stop(21, m);
 returns : tie.Need-returns

@@ -1,12 +1,8 @@
-use native.Mathlib.Omega.{arith}
+-- `select_right` answers as the selector kr means.
 use borrow.Author.Needs.{needs}
 use Rattle.primitives.proofs.Selected.{right-atom, right-zero, right-past, right-is}
 use Rattle.primitives.proofs.selectors.select_right.Statement.{statement}
 use Rattle.primitives.proofs.selectors.select_right.Tie as tie
-use Rattle.primitives.proofs.selectors.select_right.Reads as reads
-use Rattle.primitives.proofs.selectors.select_right.Lts as lts
-use Rattle.cells.proofs.nth.Reads as nth-reads
-use Rattle.cells.proofs.size.Reads as size-reads
 
 -- return Ended::Stop(21, m);
 returns : tie.Need-returns

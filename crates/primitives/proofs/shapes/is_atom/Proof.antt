@@ -1,10 +1,7 @@
-use borrow.Author.Needs.{needs}
-use native.Mathlib.Omega.{arith}
+-- `is_atom` tells whether the object is an atom.
 use Rattle.primitives.proofs.Shaped.{atom-yes, atom-seq}
 use Rattle.primitives.proofs.shapes.is_atom.Statement.{statement}
 use Rattle.primitives.proofs.shapes.is_atom.Tie as tie
-use Rattle.primitives.proofs.shapes.is_atom.Reads as reads
-use Rattle.primitives.proofs.shapes.is_atom.Lts as lts
 
 -- return true;
 returns : tie.Need-returns

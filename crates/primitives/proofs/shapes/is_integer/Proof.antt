@@ -1,10 +1,7 @@
-use borrow.Author.Needs.{needs}
-use native.Mathlib.Omega.{arith}
+-- `is_integer` tells an integer by its tag and its size.
 use Rattle.primitives.proofs.Shaped.{integer-no, integer-is}
 use Rattle.primitives.proofs.shapes.is_integer.Statement.{statement}
 use Rattle.primitives.proofs.shapes.is_integer.Tie as tie
-use Rattle.primitives.proofs.shapes.is_integer.Reads as reads
-use Rattle.primitives.proofs.shapes.is_integer.Lts as lts
 
 -- return false;
 returns : tie.Need-returns

@@ -1,10 +1,7 @@
-use borrow.Author.Needs.{needs}
-use native.Mathlib.Omega.{arith}
+-- `is_null` tells whether the object is the empty sequence.
 use Rattle.primitives.proofs.Shaped.{null-no, null-seq}
 use Rattle.primitives.proofs.shapes.is_null.Statement.{statement}
 use Rattle.primitives.proofs.shapes.is_null.Tie as tie
-use Rattle.primitives.proofs.shapes.is_null.Reads as reads
-use Rattle.primitives.proofs.shapes.is_null.Lts as lts
 
 -- return false;
 returns : tie.Need-returns

@@ -1,10 +1,7 @@
-use borrow.Author.Needs.{needs}
-use native.Mathlib.Omega.{arith}
+-- `truth` gives T or F.
 use Rattle.primitives.proofs.Shaped.{truth-t, truth-f}
 use Rattle.primitives.proofs.shapes.truth.Statement.{statement}
 use Rattle.primitives.proofs.shapes.truth.Tie as tie
-use Rattle.primitives.proofs.shapes.truth.Reads as reads
-use Rattle.primitives.proofs.shapes.truth.Lts as lts
 
 -- return Val { tag: 2, word: 20 };
 returns : tie.Need-returns

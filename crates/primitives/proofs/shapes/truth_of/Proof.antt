@@ -1,10 +1,7 @@
-use borrow.Author.Needs.{needs}
-use native.Mathlib.Omega.{arith}
+-- `truth_of` reads T, F or neither.
 use Rattle.primitives.proofs.Shaped.{truth-none, truth-read-t, truth-read-f, truth-other}
 use Rattle.primitives.proofs.shapes.truth_of.Statement.{statement}
 use Rattle.primitives.proofs.shapes.truth_of.Tie as tie
-use Rattle.primitives.proofs.shapes.truth_of.Reads as reads
-use Rattle.primitives.proofs.shapes.truth_of.Lts as lts
 
 -- return 2;
 returns : tie.Need-returns

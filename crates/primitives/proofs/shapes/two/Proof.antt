@@ -1,13 +1,8 @@
-use native.Mathlib.Omega.{arith}
+-- `two` reads the two values of a pair.
 use borrow.Author.Needs.{needs}
 use Rattle.primitives.proofs.Shaped.{two-atom, two-size, two-is}
 use Rattle.primitives.proofs.shapes.two.Statement.{statement}
 use Rattle.primitives.proofs.shapes.two.Tie as tie
-use Rattle.primitives.proofs.shapes.two.Reads as reads
-use Rattle.primitives.proofs.shapes.two.Lts as lts
-use Rattle.cells.proofs.head.Reads as head-reads
-use Rattle.cells.proofs.size.Reads as size-reads
-use Rattle.cells.proofs.tail.Reads as tail-reads
 
 -- return Two::Other;
 returns : tie.Need-returns

@@ -1,15 +1,8 @@
-use native.Mathlib.Omega.{arith}
+-- `trans` answers as its word means.
 use borrow.Author.Needs.{needs}
 use Rattle.primitives.proofs.Transposed.{trans-atom, trans-none, trans-uneven, trans-short, trans-is}
 use Rattle.primitives.proofs.transposing.trans.Statement.{statement}
 use Rattle.primitives.proofs.transposing.trans.Tie as tie
-use Rattle.primitives.proofs.transposing.trans.Reads as reads
-use Rattle.primitives.proofs.transposing.trans.Lts as lts
-use Rattle.cells.proofs.head.Reads as head-reads
-use Rattle.cells.proofs.size.Reads as size-reads
-use Rattle.primitives.proofs.asking.reserve.Reads as reserve-reads
-use Rattle.sequences.proofs.are_rows.Reads as are-rows-reads
-use Rattle.sequences.proofs.columns.Reads as columns-reads
 
 -- return Ended::Stop(21, m);
 returns : tie.Need-returns

@@ -1,12 +1,8 @@
-use native.Mathlib.Omega.{arith}
+-- `and` answers as its word means.
 use borrow.Author.Needs.{needs}
 use Rattle.primitives.proofs.Judged.{first-neither, second-neither, on-and, and-first-f, and-second-is}
 use Rattle.primitives.proofs.truths.and.Statement.{statement}
 use Rattle.primitives.proofs.truths.and.Tie as tie
-use Rattle.primitives.proofs.truths.and.Reads as reads
-use Rattle.primitives.proofs.truths.and.Lts as lts
-use Rattle.primitives.proofs.shapes.truth.Reads as truth-reads
-use Rattle.primitives.proofs.shapes.truth_of.Reads as truth-of-reads
 
 -- let x = shapes::truth_of(a);
 truth-of-requires : tie.Need-truth-of-requires

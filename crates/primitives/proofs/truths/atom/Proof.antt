@@ -1,12 +1,8 @@
-use native.Mathlib.Omega.{arith}
+-- `atom` answers as its word means.
 use borrow.Author.Needs.{needs}
 use Rattle.primitives.proofs.Judged.{atom-is}
 use Rattle.primitives.proofs.truths.atom.Statement.{statement}
 use Rattle.primitives.proofs.truths.atom.Tie as tie
-use Rattle.primitives.proofs.truths.atom.Reads as reads
-use Rattle.primitives.proofs.truths.atom.Lts as lts
-use Rattle.primitives.proofs.shapes.is_atom.Reads as is-atom-reads
-use Rattle.primitives.proofs.shapes.truth.Reads as truth-reads
 
 -- Ended::Done(shapes::truth(shapes::is_atom(v)), m)
 is-atom-requires : tie.Need-is-atom-requires

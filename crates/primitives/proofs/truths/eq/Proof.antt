@@ -1,12 +1,8 @@
-use native.Mathlib.Omega.{arith}
+-- `eq` answers as its word means, a step for each pair looked at.
 use borrow.Author.Needs.{needs}
 use Rattle.primitives.proofs.Judged.{eq-equal, eq-differ, eq-out}
 use Rattle.primitives.proofs.truths.eq.Statement.{statement}
 use Rattle.primitives.proofs.truths.eq.Tie as tie
-use Rattle.primitives.proofs.truths.eq.Reads as reads
-use Rattle.primitives.proofs.truths.eq.Lts as lts
-use Rattle.equality.proofs.same.Reads as same-reads
-use Rattle.primitives.proofs.shapes.truth.Reads as truth-reads
 
 -- match equality::same(c, a, b, m) {
 same-requires : tie.Need-same-requires

@@ -1,12 +1,8 @@
-use native.Mathlib.Omega.{arith}
+-- `not` answers as its word means.
 use borrow.Author.Needs.{needs}
 use Rattle.primitives.proofs.Judged.{not-other, not-is}
 use Rattle.primitives.proofs.truths.not.Statement.{statement}
 use Rattle.primitives.proofs.truths.not.Tie as tie
-use Rattle.primitives.proofs.truths.not.Reads as reads
-use Rattle.primitives.proofs.truths.not.Lts as lts
-use Rattle.primitives.proofs.shapes.truth.Reads as truth-reads
-use Rattle.primitives.proofs.shapes.truth_of.Reads as truth-of-reads
 
 -- let x = shapes::truth_of(v);
 truth-of-requires : tie.Need-truth-of-requires

@@ -1,12 +1,8 @@
-use native.Mathlib.Omega.{arith}
+-- `null` answers as its word means.
 use borrow.Author.Needs.{needs}
 use Rattle.primitives.proofs.Judged.{null-is}
 use Rattle.primitives.proofs.truths.null.Statement.{statement}
 use Rattle.primitives.proofs.truths.null.Tie as tie
-use Rattle.primitives.proofs.truths.null.Reads as reads
-use Rattle.primitives.proofs.truths.null.Lts as lts
-use Rattle.primitives.proofs.shapes.is_null.Reads as is-null-reads
-use Rattle.primitives.proofs.shapes.truth.Reads as truth-reads
 
 -- Ended::Done(shapes::truth(shapes::is_null(v)), m)
 is-null-requires : tie.Need-is-null-requires

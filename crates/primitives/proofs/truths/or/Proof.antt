@@ -1,12 +1,8 @@
-use native.Mathlib.Omega.{arith}
+-- `or` answers as its word means.
 use borrow.Author.Needs.{needs}
 use Rattle.primitives.proofs.Judged.{first-neither, second-neither, on-or, or-first-t, or-second-is}
 use Rattle.primitives.proofs.truths.or.Statement.{statement}
 use Rattle.primitives.proofs.truths.or.Tie as tie
-use Rattle.primitives.proofs.truths.or.Reads as reads
-use Rattle.primitives.proofs.truths.or.Lts as lts
-use Rattle.primitives.proofs.shapes.truth.Reads as truth-reads
-use Rattle.primitives.proofs.shapes.truth_of.Reads as truth-of-reads
 
 -- let x = shapes::truth_of(a);
 truth-of-requires : tie.Need-truth-of-requires

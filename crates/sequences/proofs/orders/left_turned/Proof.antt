@@ -1,15 +1,8 @@
-use native.Mathlib.Omega.{arith}
+-- `left_turned` puts the first place behind the others.
 use borrow.Author.Needs.{needs}
 use Rattle.sequences.proofs.Building.{left-none, left-far, left-is}
 use Rattle.sequences.proofs.orders.left_turned.Statement.{statement}
 use Rattle.sequences.proofs.orders.left_turned.Tie as tie
-use Rattle.sequences.proofs.orders.left_turned.Reads as reads
-use Rattle.sequences.proofs.orders.left_turned.Lts as lts
-use Rattle.cells.proofs.head.Reads as head-reads
-use Rattle.cells.proofs.sequence.Reads as sequence-reads
-use Rattle.cells.proofs.tail.Reads as tail-reads
-use Rattle.sequences.proofs.places.prepended.Reads as prepended-reads
-use Rattle.sequences.proofs.places.put_before.Reads as put-before-reads
 
 -- return v;
 returns : tie.Need-returns

@@ -1,14 +1,8 @@
-use native.Mathlib.Omega.{arith}
+-- `right_turned` puts the last place before the others.
 use borrow.Author.Needs.{needs}
 use Rattle.sequences.proofs.Building.{right-none, right-far, right-is}
 use Rattle.sequences.proofs.orders.right_turned.Statement.{statement}
 use Rattle.sequences.proofs.orders.right_turned.Tie as tie
-use Rattle.sequences.proofs.orders.right_turned.Reads as reads
-use Rattle.sequences.proofs.orders.right_turned.Lts as lts
-use Rattle.cells.proofs.nth.Reads as nth-reads
-use Rattle.cells.proofs.sequence.Reads as sequence-reads
-use Rattle.sequences.proofs.places.prepended.Reads as prepended-reads
-use Rattle.sequences.proofs.places.put_before.Reads as put-before-reads
 
 -- return v;
 returns : tie.Need-returns

@@ -1,14 +1,9 @@
+-- `turned` gives the places from the last to the first: what is ahead is turned onto what is made.
 use borrow.Author.Needs.{needs}
 use native.Mathlib.Omega.{arith}
 use Rattle.sequences.proofs.Building.{Turning, turn-far, turn-start, turn-next, turn-end}
 use Rattle.sequences.proofs.orders.turned.Statement.{statement}
 use Rattle.sequences.proofs.orders.turned.Tie as tie
-use Rattle.sequences.proofs.orders.turned.Reads as reads
-use Rattle.sequences.proofs.orders.turned.Lts as lts
-use Rattle.cells.proofs.head.Reads as head-reads
-use Rattle.cells.proofs.sequence.Reads as sequence-reads
-use Rattle.cells.proofs.tail.Reads as tail-reads
-use Rattle.sequences.proofs.places.put_before.Reads as put-before-reads
 
 abbrev Inv-loop : tie.InvT-loop
 Inv-loop c₀ n p rest₀ made₀ left₀ free₀ c rest made left free = Turning c₀ rest₀ n p c rest made left free

@@ -1,12 +1,8 @@
-use native.Mathlib.Omega.{arith}
+-- `without_last` gives all places but the last.
 use borrow.Author.Needs.{needs}
 use Rattle.sequences.proofs.Building.{last-none, last-less}
 use Rattle.sequences.proofs.orders.without_last.Statement.{statement}
 use Rattle.sequences.proofs.orders.without_last.Tie as tie
-use Rattle.sequences.proofs.orders.without_last.Reads as reads
-use Rattle.sequences.proofs.orders.without_last.Lts as lts
-use Rattle.cells.proofs.sequence.Reads as sequence-reads
-use Rattle.sequences.proofs.places.prepended.Reads as prepended-reads
 
 -- return v;
 returns : tie.Need-returns

@@ -1,11 +1,8 @@
-use native.Mathlib.Omega.{arith}
+-- `joined` gives the pair, with its first value on either side.
 use borrow.Author.Needs.{needs}
 use Rattle.sequences.proofs.Building.{joined-first, joined-second}
 use Rattle.sequences.proofs.pairs.joined.Statement.{statement}
 use Rattle.sequences.proofs.pairs.joined.Tie as tie
-use Rattle.sequences.proofs.pairs.joined.Reads as reads
-use Rattle.sequences.proofs.pairs.joined.Lts as lts
-use Rattle.cells.proofs.pair.Reads as pair-reads
 
 -- return cells::pair(c, p, a, b);
 pair-requires : tie.Need-pair-requires

@@ -1,14 +1,9 @@
+-- `shared` gives a pair for each place: the pairs from `left` on are made.
 use borrow.Author.Needs.{needs}
 use native.Mathlib.Omega.{arith}
 use Rattle.sequences.proofs.Building.{Sharing, share-long, share-far, share-start, share-next, share-end}
 use Rattle.sequences.proofs.pairs.shared.Statement.{statement}
 use Rattle.sequences.proofs.pairs.shared.Tie as tie
-use Rattle.sequences.proofs.pairs.shared.Reads as reads
-use Rattle.sequences.proofs.pairs.shared.Lts as lts
-use Rattle.cells.proofs.nth.Reads as nth-reads
-use Rattle.cells.proofs.sequence.Reads as sequence-reads
-use Rattle.sequences.proofs.pairs.joined.Reads as joined-reads
-use Rattle.sequences.proofs.places.put_before.Reads as put-before-reads
 
 abbrev Inv-loop : tie.InvT-loop
 Inv-loop c₀ a v first n p s₀ left₀ free₀ c s left free = Sharing c₀ a v first n p c s left free

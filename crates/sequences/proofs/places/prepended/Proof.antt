@@ -1,12 +1,9 @@
+-- `prepended` puts the first n places before the rest: those from `left` on are there.
 use borrow.Author.Needs.{needs}
 use native.Mathlib.Omega.{arith}
 use Rattle.sequences.proofs.Building.{Prepending, prepend-far, prepend-start, prepend-next, prepend-end}
 use Rattle.sequences.proofs.places.prepended.Statement.{statement}
 use Rattle.sequences.proofs.places.prepended.Tie as tie
-use Rattle.sequences.proofs.places.prepended.Reads as reads
-use Rattle.sequences.proofs.places.prepended.Lts as lts
-use Rattle.cells.proofs.nth.Reads as nth-reads
-use Rattle.sequences.proofs.places.put_before.Reads as put-before-reads
 
 abbrev Inv-loop : tie.InvT-loop
 Inv-loop c₀ v n p s₀ left₀ free₀ c s left free = Prepending c₀ v n p s₀ c left s free

@@ -1,14 +1,8 @@
-use native.Mathlib.Omega.{arith}
+-- `put_before` puts one place before a sequence.
 use borrow.Author.Needs.{needs}
 use Rattle.sequences.proofs.Building.{before-far, before-long, before-is}
 use Rattle.sequences.proofs.places.put_before.Statement.{statement}
 use Rattle.sequences.proofs.places.put_before.Tie as tie
-use Rattle.sequences.proofs.places.put_before.Reads as reads
-use Rattle.sequences.proofs.places.put_before.Lts as lts
-use Rattle.cells.proofs.put_cell.Reads as put-cell-reads
-use Rattle.cells.proofs.sequence.Reads as sequence-reads
-use Rattle.cells.proofs.size.Reads as size-reads
-use Rattle.sequences.proofs.places.link.Reads as link-reads
 
 -- let n = cells::size(s);
 size-requires : tie.Need-size-requires

@@ -1,14 +1,8 @@
+-- `are_rows` tells whether all places are rows: those that were passed are.
 use borrow.Author.Needs.{needs}
-use native.Mathlib.Omega.{arith}
 use Rattle.sequences.proofs.Transposing.{Checking, rows-start, rows-atom, rows-uneven, rows-next, rows-end}
 use Rattle.sequences.proofs.rows.are_rows.Statement.{statement}
 use Rattle.sequences.proofs.rows.are_rows.Tie as tie
-use Rattle.sequences.proofs.rows.are_rows.Reads as reads
-use Rattle.sequences.proofs.rows.are_rows.Lts as lts
-use Rattle.cells.proofs.head.Reads as head-reads
-use Rattle.cells.proofs.is_sequence.Reads as is-sequence-reads
-use Rattle.cells.proofs.size.Reads as size-reads
-use Rattle.cells.proofs.tail.Reads as tail-reads
 
 abbrev Inv-loop : tie.InvT-loop
 Inv-loop c n w rest₀ left₀ rest left = Checking c rest₀ n w rest left

@@ -1,13 +1,9 @@
+-- `column` gives one column: its places from `left` on are made.
 use borrow.Author.Needs.{needs}
 use native.Mathlib.Omega.{arith}
 use Rattle.sequences.proofs.Transposing.{Columning, column-far, column-start, column-next, column-end}
 use Rattle.sequences.proofs.rows.column.Statement.{statement}
 use Rattle.sequences.proofs.rows.column.Tie as tie
-use Rattle.sequences.proofs.rows.column.Reads as reads
-use Rattle.sequences.proofs.rows.column.Lts as lts
-use Rattle.cells.proofs.nth.Reads as nth-reads
-use Rattle.cells.proofs.sequence.Reads as sequence-reads
-use Rattle.sequences.proofs.places.put_before.Reads as put-before-reads
 
 abbrev Inv-loop : tie.InvT-loop
 Inv-loop c₀ v j n p s₀ left₀ free₀ c s left free = Columning c₀ v j n p c s left free

@@ -1,13 +1,9 @@
+-- `columns` gives all columns: those from `left` on are made.
 use borrow.Author.Needs.{needs}
 use native.Mathlib.Omega.{arith}
 use Rattle.sequences.proofs.Transposing.{Filling, fill-start, fill-far, fill-next, fill-end}
 use Rattle.sequences.proofs.rows.columns.Statement.{statement}
 use Rattle.sequences.proofs.rows.columns.Tie as tie
-use Rattle.sequences.proofs.rows.columns.Reads as reads
-use Rattle.sequences.proofs.rows.columns.Lts as lts
-use Rattle.cells.proofs.sequence.Reads as sequence-reads
-use Rattle.sequences.proofs.places.put_before.Reads as put-before-reads
-use Rattle.sequences.proofs.rows.column.Reads as column-reads
 
 abbrev Inv-loop : tie.InvT-loop
 Inv-loop c₀ v n w p s₀ left₀ free₀ c s left free = Filling c₀ v n w p c s left free
