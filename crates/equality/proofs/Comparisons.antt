@@ -1,7 +1,7 @@
 -- Looking at two objects, and at the places of two sequences, on cells.
 use Prim.Native.Nat.{ℕ, suc, _+_, _-_, _*_, _≤_, _<_}
 use mathlib.Core.Path.{_≡_, refl, sym, ap, ap₂, subst, _∙_}
-use mathlib.Core.Bool.{Bool, true, false, cond, _&&_}
+use mathlib.Core.Bool.{Bool, true, false, cond}
 use mathlib.Core.List.{List, [], _∷_}
 use native.Mathlib.Omega.{arith}
 use lib.Dec.{eqb, leb}
@@ -92,10 +92,6 @@ ended-onward a b m = go (a .same) refl
     go false e = rw e (onward-other (a .pairs) b m)
 
 -- ---- two atoms, or objects of different kinds
-and-false : (a b : Bool) → a ≡ false → (a && b) ≡ false
-and-false true b e = absurd (let z : _≡_ {A = ℕ} 0 1 = cc in omega arith)
-and-false false b e = refl
-
 pub same-self : (s : List ℕ) → sameBytes s s ≡ true
 same-self [] = refl
 same-self (x ∷ s) = rw (eq-eqb x x refl, same-self s)
@@ -330,9 +326,6 @@ place-end {k = k} g sp hi sq hj = record { sinks = g .sinks; means = λ n xs₀ 
 -- ---- the measure
 pub below-look : (m k : Meter) (t : ℕ) {ch : Charge} → ch ≡ stepCharge m → ch ≡ Granted k → 2 * m .steps ≡ t → 2 * k .steps + 1 < t
 below-look m k t a b e = omega (arith, step-granted m (sym a ∙ b) .steps)
-
-pub below-places : (m k : Meter) (t : ℕ) → NoMore k m → 2 * m .steps + 1 ≡ t → 2 * k .steps < t
-below-places m k t g e = omega (arith, g .steps)
 
 pub look-fell : {C : List ℕ} {a b : Val} {m k : Meter} {r : Compared} → Looks C a b m r → r ≡ Equal k → k .steps < m .steps
 look-fell c e = looks-as e c .falls .steps

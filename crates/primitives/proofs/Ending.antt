@@ -16,8 +16,7 @@ use Rattle.cells.specs.Cells.{Rep, Same, Room, free}
 use Rattle.cells.proofs.Reps.{same-refl}
 use Rattle.equality.proofs.Comparisons.{meter-same}
 use Rattle.primitives.specs.Ends.{Agree, Gives, gives-value, gives-bottom, gives-spent, Leaf}
-use Rattle.primitives.specs.Leaves.{LeafTwo, Plain, PlainTwo}
-use Rattle.primitives.specs.declared.Ended.{Ended}
+use Rattle.primitives.specs.Leaves.{LeafTwo}
 use Rattle.primitives.specs.declared.Ended.the-variants.{Done, Stop}
 
 pub agree-self : (m : Meter) → Agree m m
@@ -69,10 +68,3 @@ end-cells {C} {C′} {m} {k} {v} n y o e h f l r s =
 
 pub end-short : {C C′ : List ℕ} {m k : Meter} {a : WordAnswer} (n : ℕ) (y : Obj) → a ≡ gives 0 n y → m .cells < n → k ≡ m → Gives C m C′ (charged a m) (Stop 24 k)
 end-short {m = m} n y e h f = rw (e, f, charged-short n y m h) (gives-spent refl (agree-self m))
-
--- ---- laws of what holds with any cells
-pub plain-leaf : {v : Val} {m : Meter} {w : Word} {r : Ended} (C : List ℕ) → Plain v m w r → Leaf C v m w r C
-plain-leaf C p = p .means C
-
-pub plain-two : {a b : Val} {m : Meter} {w : Word} {r : Ended} (C : List ℕ) → PlainTwo a b m w r → LeafTwo C a b m w r C
-plain-two C p = p .means C

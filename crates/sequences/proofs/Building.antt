@@ -75,9 +75,6 @@ stands-as {C} {C′} {p} {n} {r = r} e s = subst (λ (t : Objs). Stands C p n t 
 pub nil-rep : {C : List ℕ} {n : ℕ} {v : Val} → v ≡ sequenceVal 0 0 → Rep C n v (seq nil)
 nil-rep {C} {n} e = rw e (rep-nil refl refl)
 
-space-len : {C C′ : List ℕ} {p n : ℕ} → length C′ ≡ length C → Space C p n → Space C′ p n
-space-len e s = record { far = s .far; long = omega (arith, s .long) }
-
 -- ---- the first places of a sequence
 pub record Prepending (C₀ : List ℕ) (v : Val) (n p : ℕ) (rest : Val) (C : List ℕ) (left : ℕ) (s : Val) (free : ℕ) : Type 0 where
   pub sum : free + left ≡ p + n

@@ -34,7 +34,7 @@ same-length-2 c = search needs
 
 -- fn apply_to_pair(code: u32, c: &mut [u32], v: Val, m: Meter) -> Ended
 returns-2 : tie.Need-returns-2
-returns-2 c = search (pair-none, pair-both)
+returns-2 c = search pair-both
 
 pub apply-to-pair-spec : {M : Type 1} → statement M
 apply-to-pair-spec =

@@ -34,7 +34,7 @@ same-length c = search needs
 
 -- pub fn apndl(c: &mut [u32], a: Val, b: Val, m: Meter) -> Ended
 returns-2 : tie.Need-returns-2
-returns-2 c = search (apndl-short, apndl-is)
+returns-2 c = search apndl-short
 
 -- pub fn apndl(c: &mut [u32], a: Val, b: Val, m: Meter) -> Ended
 same-length-2 : tie.Need-same-length-2
@@ -42,7 +42,7 @@ same-length-2 c = search needs
 
 -- pub fn apndl(c: &mut [u32], a: Val, b: Val, m: Meter) -> Ended
 returns-3 : tie.Need-returns-3
-returns-3 c = search (apndl-short, apndl-is)
+returns-3 c = search apndl-is
 
 pub apndl-spec : {M : Type 1} → statement M
 apndl-spec =

@@ -46,7 +46,7 @@ same-length c = search needs
 
 -- pub fn apndr(c: &mut [u32], a: Val, b: Val, m: Meter) -> Ended
 returns-2 : tie.Need-returns-2
-returns-2 c = search (apndr-short, apndr-is)
+returns-2 c = search apndr-short
 
 -- pub fn apndr(c: &mut [u32], a: Val, b: Val, m: Meter) -> Ended
 same-length-2 : tie.Need-same-length-2
@@ -54,7 +54,7 @@ same-length-2 c = search needs
 
 -- pub fn apndr(c: &mut [u32], a: Val, b: Val, m: Meter) -> Ended
 returns-3 : tie.Need-returns-3
-returns-3 c = search (apndr-short, apndr-is)
+returns-3 c = search apndr-is
 
 pub apndr-spec : {M : Type 1} → statement M
 apndr-spec =

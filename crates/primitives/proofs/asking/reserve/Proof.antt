@@ -38,11 +38,11 @@ enum-known-k-2 c = search needs
 
 -- pub fn reserve(c: &[u32], code: u32, n: u32, w: u32, m: Meter) -> Reserved
 returns-2 : tie.Need-returns-2
-returns-2 c = search (reserve-short, reserve-at)
+returns-2 c = search reserve-short
 
 -- pub fn reserve(c: &[u32], code: u32, n: u32, w: u32, m: Meter) -> Reserved
 returns-3 : tie.Need-returns-3
-returns-3 c = search (reserve-short, reserve-at)
+returns-3 c = search reserve-at
 
 pub reserve-spec : {M : Type 1} → statement M
 reserve-spec =

@@ -34,7 +34,7 @@ same-length c = search needs
 
 -- pub fn arrange(code: u32, c: &mut [u32], v: Val, m: Meter) -> Ended
 returns-2 : tie.Need-returns-2
-returns-2 c = search (order-short, order-is)
+returns-2 c = search order-short
 
 -- pub fn arrange(code: u32, c: &mut [u32], v: Val, m: Meter) -> Ended
 same-length-2 : tie.Need-same-length-2
@@ -42,7 +42,7 @@ same-length-2 c = search needs
 
 -- pub fn arrange(code: u32, c: &mut [u32], v: Val, m: Meter) -> Ended
 returns-3 : tie.Need-returns-3
-returns-3 c = search (order-short, order-is)
+returns-3 c = search order-is
 
 pub arrange-spec : {M : Type 1} → statement M
 arrange-spec =

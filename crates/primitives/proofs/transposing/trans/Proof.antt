@@ -58,7 +58,7 @@ same-length-2 c = search needs
 
 -- pub fn trans(c: &mut [u32], v: Val, m: Meter) -> Ended
 returns-4 : tie.Need-returns-4
-returns-4 c = search (trans-short, trans-is)
+returns-4 c = search trans-short
 
 -- pub fn trans(c: &mut [u32], v: Val, m: Meter) -> Ended
 same-length-3 : tie.Need-same-length-3
@@ -66,7 +66,7 @@ same-length-3 c = search needs
 
 -- pub fn trans(c: &mut [u32], v: Val, m: Meter) -> Ended
 returns-5 : tie.Need-returns-5
-returns-5 c = search (trans-short, trans-is)
+returns-5 c = search trans-is
 
 pub trans-spec : {M : Type 1} → statement M
 trans-spec =

@@ -30,15 +30,15 @@ enum-known-k-3 c = search needs
 
 -- pub fn eq(c: &[u32], a: Val, b: Val, m: Meter) -> Ended
 returns : tie.Need-returns
-returns c = search (eq-equal, eq-differ, eq-out)
+returns c = search (eq-equal, eq-differ)
 
 -- pub fn eq(c: &[u32], a: Val, b: Val, m: Meter) -> Ended
 returns-2 : tie.Need-returns-2
-returns-2 c = search (eq-equal, eq-differ, eq-out)
+returns-2 c = search (eq-equal, eq-differ)
 
 -- pub fn eq(c: &[u32], a: Val, b: Val, m: Meter) -> Ended
 returns-3 : tie.Need-returns-3
-returns-3 c = search (eq-equal, eq-differ, eq-out)
+returns-3 c = search eq-out
 
 pub eq-spec : {M : Type 1} → statement M
 eq-spec =
