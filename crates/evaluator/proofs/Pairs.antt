@@ -32,17 +32,18 @@ paired {C = C} {W} {C₁} {p = p} top {m = m} {m₁} {xa = xa} {xb} g pe e ra rb
     let f = few-cells (g .room) in
     let z = pr .means xa xb (omega (arith, g .room .small)) (omega (arith, free-room C m (g .room), c .cells)) (rw w ra) (rw w rb) in
     let s : Same C C₁ (free C m) = rw w at (z .1) in
-    let q : p + 2 ≡ free C₁ m₁ = omega (arith, c .cells, g .room .fits) in
-    (record { same = s; fewer = omega (arith, c .cells); long = lc; kept = kept-refl W top (m .cells) (m₁ .cells); names = omega (arith, c .names) },
-    record {
-      defs = g .defs;
-      still = same-trans (g .low) (g .still) s;
-      low = omega (arith, c .cells, g .low);
-      room = record { fits = omega (arith, c .cells, g .room .fits); small = omega (arith, g .room .small) };
-      ring = g .ring;
-      fuel = omega (arith, c .steps, g .fuel);
-      arg = rw q at (z .0);
-    })
+    let q : p + 2 ≡ free C₁ m₁ = omega (arith, c .cells, g .room .fits) in (
+      record { same = s; fewer = omega (arith, c .cells); long = lc; kept = kept-refl W top (m .cells) (m₁ .cells); names = omega (arith, c .names) },
+      record {
+        defs = g .defs;
+        still = same-trans (g .low) (g .still) s;
+        low = omega (arith, c .cells, g .low);
+        room = record { fits = omega (arith, c .cells, g .room .fits); small = omega (arith, g .room .small) };
+        ring = g .ring;
+        fuel = omega (arith, c .steps, g .fuel);
+        arg = rw q at (z .0);
+      },
+    )
 
 pair-asked : (m : Meter) {ch : Charge} (S : Setting) (j : ℕ) (f : Form) (a b : Obj) → ch ≡ cellsCharge 2 m → (c : Charge) → ch ≡ c → onPairOf (by S j) f a b m ≡ onCharge c noCell (λ m₁. by S j f (pair a b) m₁)
 pair-asked m S j f a b e c h = cells-asked 2 m (λ m₁. by S j f (pair a b) m₁) ∙ ap (λ u. onCharge u noCell (λ m₁. by S j f (pair a b) m₁)) (sym e ∙ h)

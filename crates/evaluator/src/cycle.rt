@@ -1,10 +1,23 @@
 // Applications of linked forms: f holds the forms, c the cells, w the ring of values that wait, of which those from top on
 // are free. Each function calls the others with fewer steps left.
 ghost use Rattle.evaluator.specs.Applying.{Applied, Chained, Slotted, Built, Mapped, Folded, Inserted, Questioned, Repeated, Bound, Chosen, Named};
-use crate::forms::{arity, constant, inner, kind, low, next};
-use crate::waiting::{Asked, collect, place, verdict};
-use language::{Charge, Meter, Val};
-use primitives::{apply_word, select, select_right, Ended};
+use crate::forms::arity;
+use crate::forms::constant;
+use crate::forms::inner;
+use crate::forms::kind;
+use crate::forms::low;
+use crate::forms::next;
+use crate::waiting::Asked;
+use crate::waiting::collect;
+use crate::waiting::place;
+use crate::waiting::verdict;
+use language::Charge;
+use language::Meter;
+use language::Val;
+use primitives::Ended;
+use primitives::apply_word;
+use primitives::select;
+use primitives::select_right;
 
 // One application of the form at i to v.
 pub fn apply(f: &[u32], c: &mut [u32], w: &mut [u32], top: u32, i: u32, v: Val, m: Meter) -> Ended
@@ -34,7 +47,15 @@ pub fn apply(f: &[u32], c: &mut [u32], w: &mut [u32], top: u32, i: u32, v: Val, 
 }
 
 // The parts of a chain whose last is at j, the last first.
-pub fn chain(f: &[u32], c: &mut [u32], w: &mut [u32], top: u32, last: u32, v: Val, m: Meter) -> Ended
+pub fn chain(
+    f: &[u32],
+    c: &mut [u32],
+    w: &mut [u32],
+    top: u32,
+    last: u32,
+    v: Val,
+    m: Meter,
+) -> Ended
     ensures { λ r. ⌜ Chained (now (f .entry)) (now (c .entry)) (now (w .entry)) top last v m r (now (c .exit)) (now (w .exit)) ⌝ }
 {
     let mut j = last;
@@ -67,7 +88,16 @@ pub fn slot(f: &[u32], c: &mut [u32], w: &mut [u32], top: u32, i: u32, v: Val, m
 }
 
 // The many parts of a construction from the one at h on, the first first; then a cell for each.
-pub fn construct(f: &[u32], c: &mut [u32], w: &mut [u32], top: u32, h: u32, many: u32, v: Val, m: Meter) -> Ended
+pub fn construct(
+    f: &[u32],
+    c: &mut [u32],
+    w: &mut [u32],
+    top: u32,
+    h: u32,
+    many: u32,
+    v: Val,
+    m: Meter,
+) -> Ended
     ensures { λ r. ⌜ Built (now (f .entry)) (now (c .entry)) (now (w .entry)) top h many v m r (now (c .exit)) (now (w .exit)) ⌝ }
 {
     let mut j = h;
@@ -110,7 +140,17 @@ pub fn each(f: &[u32], c: &mut [u32], w: &mut [u32], top: u32, g: u32, v: Val, m
 }
 
 // The form at g on the pair of the place q of s and v.
-pub fn fold(f: &[u32], c: &mut [u32], w: &mut [u32], top: u32, g: u32, s: Val, q: u32, v: Val, m: Meter) -> Ended
+pub fn fold(
+    f: &[u32],
+    c: &mut [u32],
+    w: &mut [u32],
+    top: u32,
+    g: u32,
+    s: Val,
+    q: u32,
+    v: Val,
+    m: Meter,
+) -> Ended
     ensures { λ r. ⌜ Folded (now (f .entry)) (now (c .entry)) (now (w .entry)) top g s q v m r (now (c .exit)) (now (w .exit)) ⌝ }
 {
     let p = cells::free_cell(c, m);
@@ -193,7 +233,16 @@ pub fn repeat(f: &[u32], c: &mut [u32], w: &mut [u32], top: u32, h: u32, v: Val,
 }
 
 // The form at g on the pair of the constant a and v.
-pub fn bu(f: &[u32], c: &mut [u32], w: &mut [u32], top: u32, g: u32, a: Val, v: Val, m: Meter) -> Ended
+pub fn bu(
+    f: &[u32],
+    c: &mut [u32],
+    w: &mut [u32],
+    top: u32,
+    g: u32,
+    a: Val,
+    v: Val,
+    m: Meter,
+) -> Ended
     ensures { λ r. ⌜ Bound (now (f .entry)) (now (c .entry)) (now (w .entry)) top g a v m r (now (c .exit)) (now (w .exit)) ⌝ }
 {
     let p = cells::free_cell(c, m);
@@ -207,7 +256,15 @@ pub fn bu(f: &[u32], c: &mut [u32], w: &mut [u32], top: u32, g: u32, a: Val, v: 
 }
 
 // A condition: the question at h, then the first form behind it on T, the second on F.
-pub fn condition(f: &[u32], c: &mut [u32], w: &mut [u32], top: u32, h: u32, v: Val, m: Meter) -> Ended
+pub fn condition(
+    f: &[u32],
+    c: &mut [u32],
+    w: &mut [u32],
+    top: u32,
+    h: u32,
+    v: Val,
+    m: Meter,
+) -> Ended
     ensures { λ r. ⌜ Chosen (now (f .entry)) (now (c .entry)) (now (w .entry)) top h v m r (now (c .exit)) (now (w .exit)) ⌝ }
 {
     let j = next(f, h);

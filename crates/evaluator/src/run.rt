@@ -1,7 +1,9 @@
 // A whole run.
 ghost use Rattle.evaluator.specs.Applying.{Ran};
 use crate::cycle::name;
-use language::{Charge, Meter, Val};
+use language::Charge;
+use language::Meter;
+use language::Val;
 use primitives::Ended;
 
 // Applies main to v. The record of main's body, and one, is root; 0 if main is undefined.

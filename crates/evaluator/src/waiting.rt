@@ -2,7 +2,9 @@
 ghost use mathlib.Core.Path.{_≡_};
 ghost use Prim.Native.Nat.{_+_, _%_};
 ghost use Rattle.evaluator.specs.Applying.{Collected, Judged};
-use language::{Charge, Meter, Val};
+use language::Charge;
+use language::Meter;
+use language::Val;
 use primitives::Ended;
 
 // What a question says: T, F, or that the run stops, with what is left of the budgets.

@@ -76,28 +76,28 @@ module _ (F G : List ℕ) (i : ℕ) (h : getD G (i * 4) 0 % 32 ≡ getD F (i * 4
 mutual
   pub tree-kept : {F G C : List ℕ} {n : ℕ} {root : List ℕ → ℕ} {i e : ℕ} {f : Form} → getD G (i * 4) 0 % 32 ≡ getD F (i * 4) 0 % 32 → Keeps F G (i * 4 + 1) (e * 4) → Tree F C n root i f e → Tree G C n root i f e
   tree-kept {F} {G} {i = i} {e} h s (tree l r k) =
-    let u = kids-up k in
-    tree l (row-kept F G i h (narrow (i * 4 + 1) (i * 4 + 4) (omega arith) (omega arith) s) r) (kids-kept (narrow ((i + 1) * 4) (e * 4) (omega arith) (omega arith) s) k)
+      let u = kids-up k in
+      tree l (row-kept F G i h (narrow (i * 4 + 1) (i * 4 + 4) (omega arith) (omega arith) s) r) (kids-kept (narrow ((i + 1) * 4) (e * 4) (omega arith) (omega arith) s) k)
   tree-kept {F} {G} {C} {n} {root} {i} {e} h s (tree-chain {fs = fs} l q b) =
-    let u = back-up b in
-    tree-chain l (kind-kept F G i h (narrow (i * 4 + 1) (i * 4 + 4) (omega arith) (omega arith) s) ∙ q)
-    (subst (λ (z : ℕ). Back G C n root 0 (i + 1) fs e z) (sym (s .keep (i * 4 + 2) (omega arith) (omega arith))) (back-kept (narrow ((i + 1) * 4) (e * 4) (omega arith) (omega arith) s) b))
+      let u = back-up b in
+      tree-chain l (kind-kept F G i h (narrow (i * 4 + 1) (i * 4 + 4) (omega arith) (omega arith) s) ∙ q)
+      (subst (λ (z : ℕ). Back G C n root 0 (i + 1) fs e z) (sym (s .keep (i * 4 + 2) (omega arith) (omega arith))) (back-kept (narrow ((i + 1) * 4) (e * 4) (omega arith) (omega arith) s) b))
 
   pub kids-kept : {F G C : List ℕ} {n : ℕ} {root : List ℕ → ℕ} {j e : ℕ} {fs : Forms} → Keeps F G (j * 4) (e * 4) → Kids F C n root j fs e → Kids G C n root j fs e
   kids-kept s no-kid = no-kid
   kids-kept {j = j} {e} s (a-kid {m = m} t q k) =
-    let u = tree-up t in
-    let w = kids-up k in
-    let z = s .keep (j * 4) (omega arith) (omega arith) in
-    a-kid (tree-kept (ap (λ (x : ℕ). x % 32) z) (narrow (j * 4 + 1) (m * 4) (omega arith) (omega arith) s) t) (ap (λ (x : ℕ). x / 32) z ∙ q) (kids-kept (narrow (m * 4) (e * 4) (omega arith) (omega arith) s) k)
+      let u = tree-up t in
+      let w = kids-up k in
+      let z = s .keep (j * 4) (omega arith) (omega arith) in
+      a-kid (tree-kept (ap (λ (x : ℕ). x % 32) z) (narrow (j * 4 + 1) (m * 4) (omega arith) (omega arith) s) t) (ap (λ (x : ℕ). x / 32) z ∙ q) (kids-kept (narrow (m * 4) (e * 4) (omega arith) (omega arith) s) k)
 
   pub back-kept : {F G C : List ℕ} {n : ℕ} {root : List ℕ → ℕ} {b j e y : ℕ} {fs : Forms} → Keeps F G (j * 4) (e * 4) → Back F C n root b j fs e y → Back G C n root b j fs e y
   back-kept s no-back = no-back
   back-kept {j = j} {e} s (a-back {m = m} t q k) =
-    let u = tree-up t in
-    let w = back-up k in
-    let z = s .keep (j * 4) (omega arith) (omega arith) in
-    a-back (tree-kept (ap (λ (x : ℕ). x % 32) z) (narrow (j * 4 + 1) (m * 4) (omega arith) (omega arith) s) t) (ap (λ (x : ℕ). x / 32) z ∙ q) (back-kept (narrow (m * 4) (e * 4) (omega arith) (omega arith) s) k)
+      let u = tree-up t in
+      let w = back-up k in
+      let z = s .keep (j * 4) (omega arith) (omega arith) in
+      a-back (tree-kept (ap (λ (x : ℕ). x % 32) z) (narrow (j * 4 + 1) (m * 4) (omega arith) (omega arith) s) t) (ap (λ (x : ℕ). x / 32) z ∙ q) (back-kept (narrow (m * 4) (e * 4) (omega arith) (omega arith) s) k)
 
 -- ---- they are forms as the evaluator reads them
 part-first : {F C : List ℕ} {n : ℕ} {root : List ℕ → ℕ} {j : ℕ} {f : Form} {fs : Forms} → PartsAt F C n root j (f & fs) → FormAt F C n root j f
@@ -128,5 +128,5 @@ mutual
   pub up-to : {F C : List ℕ} {n : ℕ} {root : List ℕ → ℕ} {b j e z : ℕ} {fs : Forms} (done : Forms) → Back F C n root b j fs e z → 0 < j → UpTo F C n root b done → UpTo F C n root z (done +& fs)
   up-to done no-back l u = rw (forms-end done) u
   up-to {F} {C} {n} {root} {z = z} done (a-back {j = j} {f = f} {fs = fs} t q k) l u =
-    let h = tree-up t in
-    subst (λ gs. UpTo F C n root z gs) (forms-join done (f & stop) fs) (up-to (done +& (f & stop)) k (omega arith) (one-more {f = f} {before = done} l (form-of t) (rw q u) refl))
+      let h = tree-up t in
+      subst (λ gs. UpTo F C n root z gs) (forms-join done (f & stop) fs) (up-to (done +& (f & stop)) k (omega arith) (one-more {f = f} {before = done} l (form-of t) (rw q u) refl))

@@ -168,10 +168,11 @@ one-plain {t} {i = i} {rest = rest} ke ae x y w z = rw z (record {
       let up = kids-up (p .0) in
       let up₂ = kids-up (p .1) in
       let h = link-kind t i rest (omega arith) in
-      let keep : (lo hi : ℕ) → i * 4 < lo → Keeps t (linkSet t i rest) lo hi = λ lo hi m. record { keep = λ j h₁ h₂. link-other t i rest j (λ h₃. omega arith) } in
-      (a-kid {m = rest} {f = f} {fs = fs} (tree {i = i} {f = f} (omega arith) (row-of t (linkSet t i rest) i h (keep (i * 4 + 1) (i * 4 + 4) (omega arith)) (λ q. x (ap (λ (v : ℕ). v % 32) ke ∙ q)) (λ q. y (ap (λ (v : ℕ). v % 32) ke ∙ q)) c r) (kids-kept (keep ((i + 1) * 4) (rest * 4) (omega arith)) (p .0)))
-      (link-is t i rest (omega arith) (omega arith)) (kids-kept (keep (rest * 4) (e * 4) (omega arith)) (p .1)),
-      record { keep = λ j h₁. link-other t i rest j (λ h₃. omega arith) });
+      let keep : (lo hi : ℕ) → i * 4 < lo → Keeps t (linkSet t i rest) lo hi = λ lo hi m. record { keep = λ j h₁ h₂. link-other t i rest j (λ h₃. omega arith) } in (
+        a-kid {m = rest} {f = f} {fs = fs} (tree {i = i} {f = f} (omega arith) (row-of t (linkSet t i rest) i h (keep (i * 4 + 1) (i * 4 + 4) (omega arith)) (λ q. x (ap (λ (v : ℕ). v % 32) ke ∙ q)) (λ q. y (ap (λ (v : ℕ). v % 32) ke ∙ q)) c r) (kids-kept (keep ((i + 1) * 4) (rest * 4) (omega arith)) (p .0)))
+            (link-is t i rest (omega arith) (omega arith)) (kids-kept (keep (rest * 4) (e * 4) (omega arith)) (p .1)),
+        record { keep = λ j h₁. link-other t i rest j (λ h₃. omega arith) },
+      );
 })
 
 -- a chain: its parts turned round, its last part, and then its own link
@@ -197,10 +198,11 @@ chain-of {C} {n} {root} t t₁ i r fs e l a b k (raw-chain {fs = gs} q) bk ks bl
     let keep : (lo hi : ℕ) → i * 4 + 4 ≤ lo → Keeps t₁ u lo hi = λ lo hi m. record { keep = λ j h₁ h₂. other j (λ h₃. omega arith) (λ h₃. omega arith) } in
     let lo : field u i 2 ≡ r .last = link-other t₂ i (r .rest) (i * 4 + 2) (λ h₃. omega arith) ∙ getD-set-same t₁ (i * 4 + 2) (r .last) 0 (omega arith) in
     let first : getD t₂ (i * 4) 0 ≡ 5 = getD-set-other t₁ (i * 4 + 2) (i * 4) (r .last) 0 (λ h₃. omega arith) ∙ bl .keep (i * 4) (omega arith) ∙ q in
-    let kd : getD u (i * 4) 0 % 32 ≡ 5 % 32 = link-kind t₂ i (r .rest) (omega arith) ∙ ap (λ (x : ℕ). x % 32) first in
-    (a-kid {m = r .rest} {f = chain gs} {fs = fs} (tree-chain {i = i} {e = r .rest} {fs = gs} (omega arith) (ap grouped kd ∙ kind-of 5 (omega arith)) (rw lo (back-kept (keep ((i + 1) * 4) (r .rest * 4) (omega arith)) bk)))
-    (link-is t₂ i (r .rest) (omega arith) (omega arith)) (kids-kept (keep (r .rest * 4) (e * 4) (omega arith)) ks),
-    record { keep = λ j h. other j (λ h₃. omega arith) (λ h₃. omega arith) ∙ bl .keep j (omega arith) })
+    let kd : getD u (i * 4) 0 % 32 ≡ 5 % 32 = link-kind t₂ i (r .rest) (omega arith) ∙ ap (λ (x : ℕ). x % 32) first in (
+      a-kid {m = r .rest} {f = chain gs} {fs = fs} (tree-chain {i = i} {e = r .rest} {fs = gs} (omega arith) (ap grouped kd ∙ kind-of 5 (omega arith)) (rw lo (back-kept (keep ((i + 1) * 4) (r .rest * 4) (omega arith)) bk)))
+          (link-is t₂ i (r .rest) (omega arith) (omega arith)) (kids-kept (keep (r .rest * 4) (e * 4) (omega arith)) ks),
+      record { keep = λ j h. other j (λ h₃. omega arith) (λ h₃. omega arith) ∙ bl .keep j (omega arith) },
+    )
 
 pub one-chain : {t t₁ t₂ u D : List ℕ} {i many k arity : ℕ} {r : Turned} → k ≡ getD t (i * 4) 0 → arity ≡ field t i 1 → k % 32 ≡ 5 → Reversed t (i + 1) arity r t₁ → length t₁ ≡ length t → t₂ ≡ set t₁ (i * 4 + 2) (r .last) → u ≡ linkSet t₂ i (r .rest) → OneLinked t i D many u
 one-chain {t} {t₁} {i = i} {r = r} ke ae x w ln z₁ z₂ = rw (z₂, z₁) (record {
@@ -230,10 +232,11 @@ name-of D many t i v fs e l a b k ve (raw-name {w = w} g q q₂ q₃) ks =
     let other : (j : ℕ) → (j ≡ i * 4 → ⊥) → (j ≡ i * 4 + 1 → ⊥) → getD u j 0 ≡ getD t j 0 = λ j h₁ h₂. link-other t₂ i (i + 1) j h₁ ∙ getD-set-other t (i * 4 + 1) j v 0 h₂ in
     let ar : field u i 1 ≡ rootIn D many w = link-other t₂ i (i + 1) (i * 4 + 1) (λ h₃. omega arith) ∙ getD-set-same t (i * 4 + 1) v 0 (omega arith) ∙ ve ∙ ap (λ (x : ℕ). rootFrom D many x (field t i 3) 0) q₂ ∙ ap (λ (x : ℕ). rootFrom D many (packed w % 4294967296) x 0) q₃ in
     let first : getD t₂ (i * 4) 0 ≡ 4 = getD-set-other t (i * 4 + 1) (i * 4) v 0 (λ h₃. omega arith) ∙ q in
-    let kd : getD u (i * 4) 0 % 32 ≡ 4 % 32 = link-kind t₂ i (i + 1) (omega arith) ∙ ap (λ (x : ℕ). x % 32) first in
-    (a-kid {m = i + 1} {f = name w} {fs = fs} (tree {i = i} {f = name w} (omega arith) (row-name {w = w} g (ap grouped kd ∙ kind-of 4 (omega arith)) ar) no-kid)
-    (link-is t₂ i (i + 1) (omega arith) (omega arith)) (kids-kept (record { keep = λ j h₁ h₂. other j (λ h₃. omega arith) (λ h₃. omega arith) }) ks),
-    record { keep = λ j h. other j (λ h₃. omega arith) (λ h₃. omega arith) })
+    let kd : getD u (i * 4) 0 % 32 ≡ 4 % 32 = link-kind t₂ i (i + 1) (omega arith) ∙ ap (λ (x : ℕ). x % 32) first in (
+      a-kid {m = i + 1} {f = name w} {fs = fs} (tree {i = i} {f = name w} (omega arith) (row-name {w = w} g (ap grouped kd ∙ kind-of 4 (omega arith)) ar) no-kid)
+          (link-is t₂ i (i + 1) (omega arith) (omega arith)) (kids-kept (record { keep = λ j h₁ h₂. other j (λ h₃. omega arith) (λ h₃. omega arith) }) ks),
+      record { keep = λ j h. other j (λ h₃. omega arith) (λ h₃. omega arith) },
+    )
 
 pub one-name : {t t₁ u D : List ℕ} {i many k lo hi v : ℕ} → k ≡ getD t (i * 4) 0 → k % 32 ≡ 4 → lo ≡ field t i 2 → hi ≡ field t i 3 → v ≡ rootFrom D many lo hi 0 → t₁ ≡ set t (i * 4 + 1) v → u ≡ linkSet t₁ i (i + 1) → OneLinked t i D many u
 one-name {t} {D = D} {i} {many} {hi = hi} {v = v} ke x a₂ a₃ ve z₁ z₂ = rw (z₂, z₁) (record {
