@@ -5,8 +5,8 @@ use mathlib.Core.Bool.{true}
 use mathlib.Core.List.{List, [], _∷_, _++_, append-assoc}
 use native.Mathlib.Nat.{zero-add, sub-zero}
 use native.Mathlib.Omega.{arith}
-use lib.ListN.{length, drop}
-use lib.Seq.{slice, length-slice, take-all}
+use lib.ListN.{length, drop, take}
+use lib.Seq.{slice, length-slice, take-all, length-take-le}
 use Rattle.language.specs.Objects.{Obj, seq, Objs, nil, _::_, lengthOf}
 use Rattle.language.specs.Tokens.{isDigit}
 use Rattle.language.specs.Judging.{all}
@@ -237,6 +237,10 @@ module _ {C : List ℕ} {v : Val} {out₀ : List ℕ} {from cap opened : ℕ} wh
 -- ---- the whole object: measured first, then written
 measured : (cap : ℕ) {y : Scan} (x : Obj) → scan (writeObj x) 0 (cap - 0) ≡ y → scan (writeObj x) 0 cap ≡ y
 measured cap x s = ap (λ (q : ℕ). scan (writeObj x) 0 q) (sym (sub-zero cap)) ∙ s
+
+-- a part of the output up to its room has that many bytes
+pub room-part : (cap : ℕ) (out : List ℕ) → cap ≡ outputRoom (length out) → length (take cap out) ≡ cap
+room-part cap out h = length-take-le cap out (omega arith)
 
 -- the walk that measures may write to no byte
 no-bytes : (a : List ℕ) → length a ≡ 0 → a ≡ []

@@ -17,8 +17,8 @@ fn read_atom(s: &[u8], p: usize, used: u32) -> ObjectRead
         return ObjectRead::No(6, p);
     }
     match lexer::judge_atom(s, p, n) {
-        AtomJudged::Not(k) => ObjectRead::No(k, p),
         AtomJudged::Is(v) => ObjectRead::Got(v, p + n, used),
+        AtomJudged::Not(k) => ObjectRead::No(k, p),
     }
 }
 

@@ -16,10 +16,6 @@ returns c = search atom-empty
 judge-atom-requires : tie.Need-judge-atom-requires
 judge-atom-requires c κs = search needs
 
--- AtomJudged::Not(k) => ObjectRead::No(k, p),
-enum-known-k : tie.Need-enum-known-k
-enum-known-k c = search needs
-
 -- AtomJudged::Is(v) => ObjectRead::Got(v, p + n, used),
 enum-known-v : tie.Need-enum-known-v
 enum-known-v c = search needs
@@ -28,13 +24,17 @@ enum-known-v c = search needs
 add-t10 : tie.Need-add-t10
 add-t10 c = search needs
 
+-- AtomJudged::Not(k) => ObjectRead::No(k, p),
+enum-known-k : tie.Need-enum-known-k
+enum-known-k c = search needs
+
 -- fn read_atom(s: &[u8], p: usize, used: u32) -> ObjectRead
 returns-2 : tie.Need-returns-2
-returns-2 c = search atom-not
+returns-2 c = search atom-is
 
 -- fn read_atom(s: &[u8], p: usize, used: u32) -> ObjectRead
 returns-3 : tie.Need-returns-3
-returns-3 c = search atom-is
+returns-3 c = search atom-not
 
 pub read-atom-spec : {M : Type 1} → statement M
 read-atom-spec =
@@ -43,8 +43,8 @@ read-atom-spec =
     size-at-requires
     returns
     judge-atom-requires
-    enum-known-k
     enum-known-v
     add-t10
+    enum-known-k
     returns-2
     returns-3)

@@ -1,6 +1,6 @@
 -- The walk that measures decides the answer; only where all fits does the same walk write.
 use borrow.Author.Needs.{needs}
-use Rattle.objects.proofs.Writes.{write-short, write-deep, write-done}
+use Rattle.objects.proofs.Writes.{room-part, write-short, write-deep, write-done}
 use Rattle.objects.proofs.writer.write_object.Statement.{statement}
 use Rattle.objects.proofs.writer.write_object.Tie as tie
 
@@ -14,7 +14,7 @@ slice-relend-prefix-walk-object c = search needs
 
 -- let end = match walk_object(c, v, &mut out[..none], 0, cap, 0) {
 slice-aggregate-walk-object : tie.Need-slice-aggregate-walk-object
-slice-aggregate-walk-object c = search needs
+slice-aggregate-walk-object c = search (needs, room-part)
 
 -- let end = match walk_object(c, v, &mut out[..none], 0, cap, 0) {
 walk-object-requires : tie.Need-walk-object-requires

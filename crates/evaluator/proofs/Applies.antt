@@ -1,0 +1,184 @@
+-- An application by its kind, and a whole run, in the tables against the definition.
+use Prim.Native.Nat.{ℕ, zero, suc, _+_, _-_, _*_, _≤_, _<_, _%_}
+use native.Mathlib.Omega.{arith}
+use mathlib.Core.Path.{_≡_, refl, sym, ap, subst, _∙_}
+use mathlib.Core.List.{List, [], _∷_}
+use lib.ListN.{length}
+use Rattle.language.specs.Objects.{Obj, int, symbol, seq, Objs, nil, _::_, lengthOf}
+use Rattle.language.specs.Forms.{op, select, selectRight, Form, word, name, chain, construct, constant, insert, applyAll, bu, condition, while, Forms, stop, _&_, count}
+use Rattle.language.specs.Meanings.{one, pair}
+use Rattle.language.specs.declared.Meter.{Meter}
+use Rattle.language.specs.declared.Charge.{Charge}
+use Rattle.language.specs.declared.Charge.the-variants.{Granted, Spent}
+use Rattle.language.specs.declared.Val.{Val}
+use Rattle.primitives.specs.declared.Ended.{Ended}
+use Rattle.primitives.specs.declared.Ended.the-variants.{Done, Stop}
+use Rattle.evaluator.specs.Ring.{Kept, Finished, Stopped, fell, ran-out, Ends, ends-done, ends-stop}
+use Rattle.language.specs.Bytes.{bytes}
+use Rattle.language.specs.Forms.{Prog, mainForm}
+use Rattle.language.specs.Accepted.{IsName}
+use Rattle.language.specs.Meanings.{meaning}
+use Rattle.language.specs.Evaluation.{Out, value, bottom, spent, charged, inside, apply, lookup, noStep}
+use Rattle.language.specs.Charging.{stepCharge, onCharge}
+use Rattle.language.proofs.Charging.{Left, step-asked, step-granted, step-spent}
+use Rattle.tables.specs.Tables.{field}
+use Rattle.cells.specs.Cells.{Rep, Room, free}
+use Rattle.cells.proofs.Reps.{same-refl, rep-ext}
+use Rattle.primitives.specs.Ends.{Made, Agree, Gives, gives-value, gives-bottom, gives-spent, Leaf, Sinks as Sinks-leaf}
+use Rattle.linker.specs.Linked.{FormIs, is-op, is-select, is-select-right, is-name, is-chain, is-construct, is-insert, is-all, is-condition, is-while, is-constant, is-bu, FormAt, form-at, DefAt, kindAt, constantAt, linkAt}
+use Rattle.evaluator.specs.Applying.{Setting, by, At, Given, Applied, Falls, Sinks, Chained, Built, Mapped, Inserted, Bound, Chosen, Repeated, Named, nameBy, Ran}
+use Rattle.primitives.specs.Leaves.{Coded}
+use Rattle.evaluator.proofs.Steps.{Since, since-step, ends-since, ends-eq, gives-eq, kept-refl, agree-refl, given-charged, sinks-le}
+
+-- the number is no kind
+pub record Other (κ : ℕ) : Type 0 where
+  pub not1 : κ ≡ 1 → ⊥
+  pub not2 : κ ≡ 2 → ⊥
+  pub not3 : κ ≡ 3 → ⊥
+  pub not4 : κ ≡ 4 → ⊥
+  pub not5 : κ ≡ 5 → ⊥
+  pub not6 : κ ≡ 6 → ⊥
+  pub not7 : κ ≡ 7 → ⊥
+  pub not8 : κ ≡ 8 → ⊥
+  pub not9 : κ ≡ 9 → ⊥
+  pub not10 : κ ≡ 10 → ⊥
+  pub not12 : κ ≡ 12 → ⊥
+  pub not16 : κ ≡ 16 → ⊥
+
+-- what was done at each kind
+pub data Dispatched (F C W : List ℕ) (top i : ℕ) (v : Val) (m : Meter) : ℕ → Ended → List ℕ → List ℕ → Type 0 where
+  on-word : {code : ℕ} {r : Ended} {C₁ : List ℕ} → code ≡ field F i 2 → Coded C v m code r C₁ → Dispatched F C W top i v m 1 r C₁ W
+  on-select : {k : ℕ} {r : Ended} → k ≡ field F i 2 → Leaf C v m (select k) r C → Dispatched F C W top i v m 2 r C W
+  on-select-right : {k : ℕ} {r : Ended} → k ≡ field F i 2 → Leaf C v m (selectRight k) r C → Dispatched F C W top i v m 3 r C W
+  on-name : {d : ℕ} {r : Ended} {C₁ W₁ : List ℕ} → d ≡ field F i 1 → Named F C W top d v m r C₁ W₁ → Dispatched F C W top i v m 4 r C₁ W₁
+  on-chain : {j : ℕ} {r : Ended} {C₁ W₁ : List ℕ} → j ≡ field F i 2 → Chained F C W top j v m r C₁ W₁ → Dispatched F C W top i v m 5 r C₁ W₁
+  on-construct : {h many : ℕ} {r : Ended} {C₁ W₁ : List ℕ} → h ≡ (i + 1) % 4294967296 → many ≡ field F i 1 → Built F C W top h many v m r C₁ W₁ → Dispatched F C W top i v m 6 r C₁ W₁
+  on-insert : {h : ℕ} {r : Ended} {C₁ W₁ : List ℕ} → h ≡ (i + 1) % 4294967296 → Inserted F C W top h v m r C₁ W₁ → Dispatched F C W top i v m 7 r C₁ W₁
+  on-all : {h : ℕ} {r : Ended} {C₁ W₁ : List ℕ} → h ≡ (i + 1) % 4294967296 → Mapped F C W top h v m r C₁ W₁ → Dispatched F C W top i v m 8 r C₁ W₁
+  on-condition : {h : ℕ} {r : Ended} {C₁ W₁ : List ℕ} → h ≡ (i + 1) % 4294967296 → Chosen F C W top h v m r C₁ W₁ → Dispatched F C W top i v m 9 r C₁ W₁
+  on-while : {h : ℕ} {r : Ended} {C₁ W₁ : List ℕ} → h ≡ (i + 1) % 4294967296 → Repeated F C W top h v m r C₁ W₁ → Dispatched F C W top i v m 10 r C₁ W₁
+  on-constant : {u : Val} → u ≡ constantAt F i → Dispatched F C W top i v m 12 (Done u m) C W
+  on-bu : {h : ℕ} {a : Val} {r : Ended} {C₁ W₁ : List ℕ} → h ≡ (i + 1) % 4294967296 → a ≡ constantAt F i → Bound F C W top h a v m r C₁ W₁ → Dispatched F C W top i v m 16 r C₁ W₁
+  on-other : {κ : ℕ} → Other κ → Dispatched F C W top i v m κ (Stop 21 m) C W
+
+-- a word ends without the ring
+leaf-ends : {C C₁ : List ℕ} (W : List ℕ) (top : ℕ) {m : Meter} {e : Out Obj} (r : Ended) → length W ≡ 16384 → Sinks-leaf r m → Gives C m C₁ e r → Ends C W top m e C₁ W r
+leaf-ends W top {m} (Done v k) w s (gives-value {x = x} g) = ends-done {v = v} {m′ = k} (record { obj = x; is = refl; made = g; ring = w; kept = kept-refl W top (m .cells) (k .cells); names = s .1 })
+leaf-ends W top (Stop n k) w s (gives-bottom z a) = ends-stop (fell refl z a)
+leaf-ends W top (Stop n k) w s (gives-spent z a) = ends-stop (ran-out refl z a)
+
+leaf : {F C W C₁ : List ℕ} {S : Setting} {k : ℕ} (top : ℕ) {v : Val} {m : Meter} {x : Obj} (r : Ended) {w : _} → Leaf C v m w r C₁ → Given F S k C W m v x → Ends C W top m (charged (meaning one w x) m) C₁ W r
+leaf {W = W} top {x = x} r l g = leaf-ends W top r (g .ring) (l .sinks) (l .means x (g .room) (g .arg))
+
+constant-here : {F C W : List ℕ} {S : Setting} {k : ℕ} (top : ℕ) {v u : Val} {m : Meter} {x y : Obj} → Given F S k C W m v x → Rep (S .cells) (S .few) u y → Ends C W top m (value y m) C W (Done u m)
+constant-here {C = C} {W} top {u = u} {m} {y = y} g p = ends-done {v = u} {m′ = m} (record {
+  obj = y;
+  is = refl;
+  made = record { rep = rep-ext (g .still) (g .low) p; same = same-refl C (free C m); room = g .room; fewer = omega arith; long = refl };
+  ring = g .ring;
+  kept = kept-refl W top (m .cells) (m .cells);
+  names = refl;
+})
+
+-- the first part's record
+behind : (i h : ℕ) → i < 2048 → h ≡ (i + 1) % 4294967296 → i + 1 ≡ h
+behind i h l e = omega arith
+
+dispatch : {F C W C₁ W₁ : List ℕ} {κ top i : ℕ} {v : Val} {m : Meter} {f : Form} {x : Obj} {r : Ended} (S : Setting) (k : ℕ) → i < 2048 → FormIs F (S .cells) (S .few) (S .root) κ i f → Dispatched F C W top i v m κ r C₁ W₁ → Given F S k C W m v x → Ends C W top m (inside (by S k) k one (S .prog) f x m) C₁ W₁ r
+dispatch {top = top} {r = r} S k b (is-op {o = o} p) (on-word q l) g = leaf top r (l .means o (sym (q ∙ p))) g
+dispatch {C = C} {top = top} {v = v} {m = m} {r = r} S k b (is-select {k = n} p) (on-select q l) g = leaf top r (subst (λ (j : ℕ). Leaf C v m (select j) r C) (q ∙ p) l) g
+dispatch {C = C} {top = top} {v = v} {m = m} {r = r} S k b (is-select-right {k = n} p) (on-select-right q l) g = leaf top r (subst (λ (j : ℕ). Leaf C v m (selectRight j) r C) (q ∙ p) l) g
+dispatch {x = x} S k b (is-name {w = w} n p) (on-name q c) g = c .means S k w x n (q ∙ p) g
+dispatch {x = x} S k b (is-chain {fs = fs} p) (on-chain q c) g = c .means S k fs x (rw q p) g
+dispatch {i = i} {x = x} S k b (is-construct {fs = fs} e p) (on-construct {h = h} q z c) g = c .means S k fs x (e ∙ sym z) (rw (behind i h b q) at p) g
+dispatch {i = i} {x = x} S k b (is-insert {f = f} p) (on-insert {h = h} q c) g = c .means S k f x (rw (behind i h b q) at p) g
+dispatch {i = i} {x = x} S k b (is-all {f = f} p) (on-all {h = h} q c) g = c .means S k f x (rw (behind i h b q) at p) g
+dispatch {i = i} {x = x} S k b (is-condition {p = p} {f = f} {g = f₂} a a₁ a₂) (on-condition {h = h} q c) g = c .means S k p f f₂ x (rw (behind i h b q) at a) (rw (behind i h b q) at a₁) (rw (behind i h b q) at a₂) g
+dispatch {i = i} {x = x} S k b (is-while {p = p} {f = f} a a₁) (on-while {h = h} q c) g = c .means S k p f x (rw (behind i h b q) at a) (rw (behind i h b q) at a₁) g
+dispatch {top = top} S k b (is-constant p) (on-constant q) g = constant-here top g (rw q p)
+dispatch {i = i} {x = x} S k b (is-bu {f = f} {x = y} p p₁) (on-bu {h = h} q z c) g = c .means S k f y x (rw (behind i h b q) at p) (rw z p₁) g
+dispatch S k b (is-op p) (on-other h) g = absurd (h .not1 refl)
+dispatch S k b (is-select p) (on-other h) g = absurd (h .not2 refl)
+dispatch S k b (is-select-right p) (on-other h) g = absurd (h .not3 refl)
+dispatch S k b (is-name n p) (on-other h) g = absurd (h .not4 refl)
+dispatch S k b (is-chain p) (on-other h) g = absurd (h .not5 refl)
+dispatch S k b (is-construct e p) (on-other h) g = absurd (h .not6 refl)
+dispatch S k b (is-insert p) (on-other h) g = absurd (h .not7 refl)
+dispatch S k b (is-all p) (on-other h) g = absurd (h .not8 refl)
+dispatch S k b (is-condition a a₁ a₂) (on-other h) g = absurd (h .not9 refl)
+dispatch S k b (is-while a a₁) (on-other h) g = absurd (h .not10 refl)
+dispatch S k b (is-constant p) (on-other h) g = absurd (h .not12 refl)
+dispatch S k b (is-bu p p₁) (on-other h) g = absurd (h .not16 refl)
+
+leaf-sinks : (r : Ended) (m : Meter) → Sinks-leaf r m → Sinks r m
+leaf-sinks (Done v k) m s = s .0
+leaf-sinks (Stop n k) m s = tt
+
+dispatch-sinks : {F C W C₁ W₁ : List ℕ} {κ top i : ℕ} {v : Val} {m : Meter} (r : Ended) → Dispatched F C W top i v m κ r C₁ W₁ → Sinks r m
+dispatch-sinks {m = m} r (on-word q l) = leaf-sinks r m (l .sinks)
+dispatch-sinks {m = m} r (on-select q l) = leaf-sinks r m (l .sinks)
+dispatch-sinks {m = m} r (on-select-right q l) = leaf-sinks r m (l .sinks)
+dispatch-sinks r (on-name q c) = c .sinks
+dispatch-sinks r (on-chain q c) = c .sinks
+dispatch-sinks r (on-construct q z c) = c .sinks
+dispatch-sinks r (on-insert q c) = c .sinks
+dispatch-sinks r (on-all q c) = c .sinks
+dispatch-sinks r (on-condition q c) = c .sinks
+dispatch-sinks r (on-while q c) = c .sinks
+dispatch-sinks r (on-constant q) = omega arith
+dispatch-sinks r (on-bu q z c) = c .sinks
+dispatch-sinks r (on-other h) = tt
+
+falls-after : (r : Ended) (m m₁ : Meter) → Sinks r m₁ → m₁ .steps + 1 ≡ m .steps → Falls r m
+falls-after (Done v k) m m₁ s e = omega arith
+falls-after (Stop v k) m m₁ s e = tt
+
+apply-means : {F C W C₁ W₁ : List ℕ} {κ top i : ℕ} {v : Val} {m m₁ : Meter} {f : Form} {x : Obj} {r : Ended} (S : Setting) (k : ℕ) → kindAt F i ≡ κ → stepCharge m ≡ Granted m₁ → Left m m₁ 1 0 0 → Dispatched F C W top i v m₁ κ r C₁ W₁ → At F S i f → Given F S k C W m v x → Ends C W top m (by S k f x m) C₁ W₁ r
+apply-means S zero q e c d at g = absurd (omega (arith, c .steps, g .fuel))
+apply-means {F} {C} {W} {top = top} {i} {m = m} {f = f} {x} S (suc k) q e c d (form-at l q₁ fi) g =
+    ends-eq (step-asked m (λ m₁. inside (by S k) k one (S .prog) f x m₁) ∙ ap (λ u. onCharge u noStep (λ m₁. inside (by S k) k one (S .prog) f x m₁)) e)
+    (ends-since (since-step C W top c) (dispatch S k l (subst (λ (n : ℕ). FormIs F (S .cells) (S .few) (S .root) n i f) (sym q₁ ∙ q) fi) d (given-charged 1 0 k c (omega arith) g)))
+
+pub applied : {F C W C₁ W₁ : List ℕ} {κ κ₁ top i : ℕ} {v : Val} {m m₁ : Meter} {ch : Charge} {r : Ended} → ch ≡ stepCharge m → ch ≡ Granted m₁ → κ₁ ≡ kindAt F i → κ₁ ≡ κ → Dispatched F C W top i v m₁ κ r C₁ W₁ → Applied F C W top i v m r C₁ W₁
+applied {m = m} {m₁} {r = r} a b q z d =
+    let e = sym a ∙ b in
+    let c = step-granted m e in
+    record { falls = falls-after r m m₁ (dispatch-sinks r d) (c .steps); means = λ S k f x at g. apply-means S k (sym q ∙ z) e c d at g }
+
+spent-means : (S : Setting) (f : Form) (x : Obj) (m : Meter) {m₁ : Meter} (k : ℕ) → stepCharge m ≡ Spent m₁ → by S k f x m ≡ spent noStep m₁
+spent-means S f x m zero e = ap (spent noStep) (step-spent m e .1)
+spent-means S f x m (suc k) e = step-asked m (λ m₁. inside (by S k) k one (S .prog) f x m₁) ∙ ap (λ u. onCharge u noStep (λ m₁. inside (by S k) k one (S .prog) f x m₁)) e
+
+pub apply-spent : {F C W : List ℕ} {top i : ℕ} {v : Val} {m m₁ : Meter} {ch : Charge} → ch ≡ stepCharge m → ch ≡ Spent m₁ → Applied F C W top i v m (Stop 22 m₁) C W
+apply-spent {m = m} {m₁} a b = record { falls = tt; means = λ S k f x at g. ends-stop (ran-out (spent-means S f x m k (sym a ∙ b)) refl (agree-refl m₁)) }
+
+pub apply-other : {F C W : List ℕ} {κ top i : ℕ} {v : Val} {m m₁ : Meter} {ch : Charge} → ch ≡ stepCharge m → ch ≡ Granted m₁ → κ ≡ kindAt F i → (κ ≡ 1 → ⊥) → (κ ≡ 2 → ⊥) → (κ ≡ 3 → ⊥) → (κ ≡ 4 → ⊥) → (κ ≡ 5 → ⊥) → (κ ≡ 6 → ⊥) → (κ ≡ 7 → ⊥) → (κ ≡ 8 → ⊥) → (κ ≡ 9 → ⊥) → (κ ≡ 10 → ⊥) → (κ ≡ 12 → ⊥) → (κ ≡ 16 → ⊥) → Applied F C W top i v m (Stop 21 m₁) C W
+apply-other a b q n1 n2 n3 n4 n5 n6 n7 n8 n9 n10 n12 n16 = applied a b q refl (on-other (record { not1 = n1; not2 = n2; not3 = n3; not4 = n4; not5 = n5; not6 = n6; not7 = n7; not8 = n8; not9 = n9; not10 = n10; not12 = n12; not16 = n16 }))
+
+-- ---- a whole run
+main-name : IsName (bytes "main")
+main-name = (refl, refl, omega arith, refl)
+
+ends-gives : {C W C₁ W₁ : List ℕ} {top : ℕ} {m : Meter} {e : Out Obj} {r : Ended} → Ends C W top m e C₁ W₁ r → Gives C m C₁ e r
+ends-gives (ends-done f) = gives-eq (f .is) (gives-value (f .made))
+ends-gives (ends-stop (fell e z a)) = gives-eq e (gives-bottom z a)
+ends-gives (ends-stop (ran-out e z a)) = gives-eq e (gives-spent z a)
+
+pub ran-spent : {F C : List ℕ} {d : ℕ} {v : Val} {m m₁ : Meter} {ch : Charge} → ch ≡ stepCharge m → ch ≡ Spent m₁ → Ran F C d v m (Stop 22 m₁) C
+ran-spent {C = C} {m = m} {m₁} a b = record {
+  means = λ P root x ds q rm p. gives-eq (spent-means (record { prog = P; root = root; cells = C; few = free C m }) mainForm x m (m .steps) (sym a ∙ b)) (gives-spent refl (agree-refl m₁));
+}
+
+run-means : {F C W C₁ W₁ : List ℕ} {d : ℕ} {v : Val} {m m₁ : Meter} {x : Obj} {r : Ended} (S : Setting) (k : ℕ) → m .steps ≤ k → stepCharge m ≡ Granted m₁ → Left m m₁ 1 0 0 → Named F C W 0 d v m₁ r C₁ W₁ → d ≡ S .root (bytes "main") → Given F S k C W m v x → Ends C W 0 m (by S k mainForm x m) C₁ W₁ r
+run-means S zero l e c n q g = absurd (omega (arith, c .steps))
+run-means {C = C} {W} {m = m} {x = x} S (suc k) l e c n q g =
+    ends-eq (step-asked m (λ m₁. inside (by S k) k one (S .prog) mainForm x m₁) ∙ ap (λ u. onCharge u noStep (λ m₁. inside (by S k) k one (S .prog) mainForm x m₁)) e)
+    (ends-since (since-step C W 0 c) (n .means S k (bytes "main") x main-name q (given-charged 1 0 k c (omega arith) g)))
+
+pub ran : {F C W C₁ W₁ : List ℕ} {d : ℕ} {v : Val} {m m₁ : Meter} {ch : Charge} {r : Ended} → ch ≡ stepCharge m → ch ≡ Granted m₁ → length W ≡ 16384 → Named F C W 0 d v m₁ r C₁ W₁ → Ran F C d v m r C₁
+ran {C = C} {m = m} a b l n =
+    let e = sym a ∙ b in
+    record {
+      means = λ P root x ds q rm p. ends-gives (run-means (record { prog = P; root = root; cells = C; few = free C m }) (m .steps) (omega arith) e (step-granted m e) n q
+          (record { defs = ds; still = same-refl C (free C m); low = omega arith; room = rm; ring = l; fuel = omega arith; arg = p }));
+    }

@@ -1,0 +1,284 @@
+-- Chains, conditions and names in the tables against the definition.
+use Prim.Native.Nat.{ℕ, zero, suc, _+_, _-_, _*_, _≤_, _<_, _%_}
+use native.Mathlib.Omega.{arith}
+use mathlib.Core.Path.{_≡_, refl, sym, ap, subst, _∙_}
+use mathlib.Core.Bool.{Bool, true, false, cond}
+use mathlib.Core.List.{List, [], _∷_}
+use lib.Dec.{leb}
+use mathlib.Core.Option.{Option, some, none}
+use lib.ListN.{length}
+use Rattle.language.specs.Objects.{Obj, truthOf, Truth, isT, isF, neither}
+use Rattle.language.specs.Forms.{Form, Forms, stop, _&_, _+&_}
+use Rattle.language.specs.Accepted.{IsName}
+use Rattle.language.specs.Evaluation.{Out, value, bottom, spent, bind, close, withNames, Apply, apply, lookup, askName, chainBy, decide, noName}
+use Rattle.language.specs.Charging.{stepCharge, cellsCharge, nameCharge, closed, onCharge}
+use Rattle.language.specs.declared.Meter.{Meter}
+use Rattle.language.specs.declared.Charge.{Charge}
+use Rattle.language.specs.declared.Charge.the-variants.{Granted, Spent}
+use Rattle.language.specs.declared.Val.{Val}
+use Rattle.language.proofs.Charging.{Left, name-asked, closed-is, name-granted, name-spent}
+use Rattle.cells.specs.Cells.{Rep, Same, Room, free}
+use Rattle.primitives.specs.declared.Ended.{Ended}
+use Rattle.primitives.specs.declared.Ended.the-variants.{Done, Stop}
+use Rattle.primitives.specs.Ends.{Made, Agree}
+use Rattle.evaluator.specs.declared.waiting.Asked.{Asked}
+use Rattle.evaluator.specs.declared.waiting.Asked.the-variants.{Yes, No, Stop as AskStop}
+use Rattle.linker.specs.Linked.{FormAt, form-at, UpTo, none-yet, one-more, DefAt, no-def, a-def, linkAt}
+use Rattle.evaluator.specs.Ring.{Kept, Finished, Stopped, fell, ran-out, Ends, ends-done, ends-stop}
+use Rattle.evaluator.specs.Applying.{Setting, by, At, LastAt, Given, Applied, Falls, Sinks, Chained, Chosen, Named, nameBy, Judged, Answers, says-yes, says-no, says-stop, Questioned, Lessens}
+use Rattle.evaluator.proofs.Steps.{Since, since, since-refl, since-trans, gave, gave-stop, ends-since, ends-eq, stopped-eq, stopped-bind, stopped-close, agree-refl, given-value, given-again, given-charged, applied-as, sinks-after, decide-true, decide-false, decide-none}
+
+bind-value : (u : Out Obj) → u ≡ bind u (λ y m. value y m)
+bind-value (value y m) = refl
+bind-value (bottom m) = refl
+bind-value (spent w m) = refl
+
+bind-bind : (u : Out Obj) (k l : Obj → Meter → Out Obj) → bind (bind u k) l ≡ bind u (λ y m. bind (k y m) l)
+bind-bind (value y m) k l = refl
+bind-bind (bottom m) k l = refl
+bind-bind (spent w m) k l = refl
+
+-- the last part first, and then those before it
+chain-last : (ev : Apply) (fs : Forms) (f : Form) (x : Obj) (m : Meter) → chainBy ev (fs +& (f & stop)) x m ≡ bind (ev f x m) (chainBy ev fs)
+chain-last ev stop f x m = bind-value (ev f x m)
+chain-last ev (g & fs) f x m = ap (λ u. bind u (λ y m₁. ev g y m₁)) (chain-last ev fs f x m) ∙ bind-bind (ev f x m) (chainBy ev fs) (λ y m₁. ev g y m₁)
+
+-- ---- a chain
+pub record ChainNow (F : List ℕ) (S : Setting) (k : ℕ) (Cs Ws : List ℕ) (top : ℕ) (m : Meter) (e : Out Obj) (C W : List ℕ) (j : ℕ) (v : Val) (n : Meter) : Type 0 where
+  pub fs : Forms
+  pub x : Obj
+  pub parts : LastAt F S j fs
+  pub given : Given F S k C W n v x
+  pub since : Since Cs Ws top m C W n
+  pub whole : e ≡ chainBy (by S k) fs x n
+
+pub record Chaining (F Cs Ws : List ℕ) (top last : ℕ) (v₀ : Val) (m : Meter) (C W : List ℕ) (j : ℕ) (v : Val) (n : Meter) : Type 0 where
+  pub sinks : n .steps ≤ m .steps
+  pub fits : j < 4294967296
+  pub longC : length C ≡ length Cs
+  pub longW : length W ≡ length Ws
+  pub means : (S : Setting) (k : ℕ) (fs : Forms) (x : Obj) → LastAt F S last fs → Given F S k Cs Ws m v₀ x → ChainNow F S k Cs Ws top m (chainBy (by S k) fs x m) C W j v n
+
+pub chain-start : {F C W : List ℕ} {top j : ℕ} {v : Val} {m : Meter} → j < 4294967296 → Chaining F C W top j v m C W j v m
+chain-start {F} {C} {W} {top} {m = m} z = record {
+  sinks = omega arith;
+  fits = z;
+  longC = refl;
+  longW = refl;
+  means = λ S k fs x p g. record { fs = fs; x = x; parts = p; given = g; since = since-refl C W top m; whole = refl };
+}
+
+step-chain : {F Cs Ws C W C₁ W₁ : List ℕ} {top j : ℕ} {v y : Val} {m n n₁ : Meter} {e : Out Obj} {fs : Forms} {x : Obj} (S : Setting) (k : ℕ) → (j ≡ 0 → ⊥) → LastAt F S j fs → Given F S k C W n v x → Since Cs Ws top m C W n → e ≡ chainBy (by S k) fs x n → Applied F C W top j v n (Done y n₁) C₁ W₁ → ChainNow F S k Cs Ws top m e C₁ W₁ (linkAt F j) y n₁
+step-chain S k z (none-yet h) g s w a = absurd (z h)
+step-chain {n = n} {x = x} S k z (one-more {f = f} {before = before} l fa ps q) g s w a =
+    let u = gave (a .means S k f x fa g) in
+    record {
+      fs = before;
+      x = u .obj;
+      parts = ps;
+      given = given-value g (a .falls) u;
+      since = since-trans s (since u);
+      whole = w ∙ ap (λ h. chainBy (by S k) h x n) q ∙ chain-last (by S k) before f x n ∙ ap (λ h. bind h (chainBy (by S k) before)) (u .is);
+    }
+
+pub chain-next : {F Cs Ws C W C₁ W₁ : List ℕ} {top last j j₁ : ℕ} {v₀ v y : Val} {m n n₁ : Meter} {r : Ended} → (j ≡ 0 → ⊥) → Chaining F Cs Ws top last v₀ m C W j v n → Applied F C W top j v n r C₁ W₁ → r ≡ Done y n₁ → j₁ ≡ linkAt F j → j₁ < 4294967296 → length C₁ ≡ length C → length W₁ ≡ length W → Chaining F Cs Ws top last v₀ m C₁ W₁ j₁ y n₁
+chain-next z c a e q fj lc lw =
+    let b = applied-as e a in
+    record {
+      sinks = omega (arith, b .falls, c .sinks);
+      fits = fj;
+      longC = lc ∙ c .longC;
+      longW = lw ∙ c .longW;
+      means = λ S k fs x p g. let h = c .means S k fs x p g in rw q (step-chain S k z (h .parts) (h .given) (h .since) (h .whole) b);
+    }
+
+stop-chain : {F C W C₁ W₁ : List ℕ} {top j a : ℕ} {v : Val} {n n₁ : Meter} {e : Out Obj} {fs : Forms} {x : Obj} (S : Setting) (k : ℕ) → (j ≡ 0 → ⊥) → LastAt F S j fs → Given F S k C W n v x → e ≡ chainBy (by S k) fs x n → Applied F C W top j v n (Stop a n₁) C₁ W₁ → Stopped e a n₁
+stop-chain S k z (none-yet h) g w a = absurd (z h)
+stop-chain {n = n} {x = x} S k z (one-more {f = f} {before = before} l fa ps q) g w a =
+    stopped-eq (w ∙ ap (λ h. chainBy (by S k) h x n) q ∙ chain-last (by S k) before f x n) (stopped-bind (chainBy (by S k) before) (gave-stop (a .means S k f x fa g)))
+
+pub chain-stop : {F Cs Ws C W C₁ W₁ : List ℕ} {top last j a : ℕ} {v₀ v : Val} {m n n₁ : Meter} {r : Ended} → (j ≡ 0 → ⊥) → Chaining F Cs Ws top last v₀ m C W j v n → Applied F C W top j v n r C₁ W₁ → r ≡ Stop a n₁ → Chained F Cs Ws top last v₀ m (Stop a n₁) C₁ W₁
+chain-stop z c a e = record {
+  sinks = tt;
+  means = λ S k fs x p g. let h = c .means S k fs x p g in ends-stop (stop-chain S k z (h .parts) (h .given) (h .whole) (applied-as e a));
+}
+
+end-chain : {F Cs Ws C W : List ℕ} {top j : ℕ} {v : Val} {m n : Meter} {e : Out Obj} {fs : Forms} {x : Obj} (S : Setting) (k : ℕ) → j ≡ 0 → LastAt F S j fs → Given F S k C W n v x → Since Cs Ws top m C W n → e ≡ chainBy (by S k) fs x n → Finished Cs Ws top m e v n C W
+end-chain {x = x} S k z (none-yet h) g s w = record { obj = x; is = w; made = record { rep = g .arg; same = s .same; room = g .room; fewer = s .fewer; long = s .long }; ring = g .ring; kept = s .kept; names = s .names }
+end-chain S k z (one-more l fa ps q) g s w = absurd (omega arith)
+
+pub chain-end : {F Cs Ws C W : List ℕ} {top last j : ℕ} {v₀ v : Val} {m n : Meter} → j ≡ 0 → Chaining F Cs Ws top last v₀ m C W j v n → Chained F Cs Ws top last v₀ m (Done v n) C W
+chain-end z c = record {
+  sinks = c .sinks;
+  means = λ S k fs x p g. let h = c .means S k fs x p g in ends-done (end-chain S k z (h .parts) (h .given) (h .since) (h .whole));
+}
+
+-- ---- a question
+pub ask-stop : {F C W C₁ W₁ : List ℕ} {top h a : ℕ} {v : Val} {m n : Meter} {r : Ended} → Applied F C W top h v m r C₁ W₁ → r ≡ Stop a n → Questioned F C W top h v m (AskStop a n) C₁ W₁
+ask-stop a e = record { falls = tt; means = λ S k p x at gv. says-stop (λ onT onF. stopped-bind (λ b m₁. decide b m₁ onT onF) (gave-stop (applied-as e a .means S k p x at gv))) }
+
+pub ask-yes : {F C W C₁ W₁ : List ℕ} {top h b : ℕ} {v y : Val} {m n : Meter} {r : Ended} → Applied F C W top h v m r C₁ W₁ → r ≡ Done y n → Judged y b → b ≡ 1 → Questioned F C W top h v m (Yes n) C₁ W₁
+ask-yes {C₁ = C₁} {n = n} a e jd t =
+    let a′ = applied-as e a in
+    record { falls = a′ .falls; means = λ S k p x at gv. let u = gave (a′ .means S k p x at gv) in says-yes u (jd .is-true t C₁ (free C₁ n) (u .obj) (u .made .rep)) }
+
+pub ask-no : {F C W C₁ W₁ : List ℕ} {top h b : ℕ} {v y : Val} {m n : Meter} {r : Ended} → Applied F C W top h v m r C₁ W₁ → r ≡ Done y n → Judged y b → b ≡ 0 → Questioned F C W top h v m (No n) C₁ W₁
+ask-no {C₁ = C₁} {n = n} a e jd t =
+    let a′ = applied-as e a in
+    record { falls = a′ .falls; means = λ S k p x at gv. let u = gave (a′ .means S k p x at gv) in says-no u (jd .is-false t C₁ (free C₁ n) (u .obj) (u .made .rep)) }
+
+pub ask-none : {F C W C₁ W₁ : List ℕ} {top h b : ℕ} {v y : Val} {m n : Meter} {r : Ended} → Applied F C W top h v m r C₁ W₁ → r ≡ Done y n → Judged y b → (b ≡ 1 → ⊥) → (b ≡ 0 → ⊥) → Questioned F C W top h v m (AskStop 21 n) C₁ W₁
+ask-none {C₁ = C₁} {n = n} a e jd d t =
+    let a′ = applied-as e a in
+    record {
+      falls = tt;
+      means = λ S k p x at gv.
+          let u = gave (a′ .means S k p x at gv) in
+          says-stop (λ onT onF. fell (ap (λ w. bind w (λ b m₁. decide b m₁ onT onF)) (u .is) ∙ decide-none (u .obj) n onT onF (jd .is-none d t C₁ (free C₁ n) (u .obj) (u .made .rep))) refl (agree-refl n));
+    }
+
+asked-as : {F C W C₁ W₁ : List ℕ} {top i : ℕ} {v : Val} {m : Meter} {r r′ : Asked} → r ≡ r′ → Questioned F C W top i v m r C₁ W₁ → Questioned F C W top i v m r′ C₁ W₁
+asked-as {F} {C} {W} {C₁} {W₁} {top} {i} {v} {m} e a = subst (λ r. Questioned F C W top i v m r C₁ W₁) e a
+
+pub yes-fell : {F C W C₁ W₁ : List ℕ} {top h : ℕ} {v : Val} {m k : Meter} {r : Asked} → Questioned F C W top h v m r C₁ W₁ → r ≡ Yes k → k .steps < m .steps
+yes-fell a e = asked-as e a .falls
+
+pub no-fell : {F C W C₁ W₁ : List ℕ} {top h : ℕ} {v : Val} {m k : Meter} {r : Asked} → Questioned F C W top h v m r C₁ W₁ → r ≡ No k → k .steps < m .steps
+no-fell a e = asked-as e a .falls
+
+pub below-yes : {F C W C₁ W₁ : List ℕ} {top h : ℕ} {v : Val} {m k : Meter} {r : Asked} (t : ℕ) → Questioned F C W top h v m r C₁ W₁ → r ≡ Yes k → 4 * m .steps + 2 ≡ t → 4 * k .steps < t
+below-yes t a e q = omega (arith, yes-fell a e)
+
+pub below-no : {F C W C₁ W₁ : List ℕ} {top h : ℕ} {v : Val} {m k : Meter} {r : Asked} (t : ℕ) → Questioned F C W top h v m r C₁ W₁ → r ≡ No k → 4 * m .steps + 2 ≡ t → 4 * k .steps < t
+below-no t a e q = omega (arith, no-fell a e)
+
+-- what the question's outcome was
+pub record Said (C W : List ℕ) (top : ℕ) (m : Meter) (e : Out Obj) (t : Truth) (k : Meter) (C₁ W₁ : List ℕ) : Type 0 where
+  pub val : Val
+  pub done : Finished C W top m e val k C₁ W₁
+  pub says : truthOf (done .obj) ≡ t
+
+said-yes : {C W C₁ W₁ : List ℕ} {top : ℕ} {m k : Meter} {e : Out Obj} → Answers C W top m e C₁ W₁ (Yes k) → Said C W top m e isT k C₁ W₁
+said-yes (says-yes {v = v} u t) = record { val = v; done = u; says = t }
+
+said-no : {C W C₁ W₁ : List ℕ} {top : ℕ} {m k : Meter} {e : Out Obj} → Answers C W top m e C₁ W₁ (No k) → Said C W top m e isF k C₁ W₁
+said-no (says-no {v = v} u t) = record { val = v; done = u; says = t }
+
+said-stop : {C W C₁ W₁ : List ℕ} {top a : ℕ} {m k : Meter} {e : Out Obj} → Answers C W top m e C₁ W₁ (AskStop a k) → (onT onF : Meter → Out Obj) → Stopped (bind e (λ b m₁. decide b m₁ onT onF)) a k
+said-stop (says-stop s) = s
+
+-- the three ways that a question goes
+pub on-yes : {F C W C₁ W₁ : List ℕ} {top h : ℕ} {v : Val} {m n : Meter} {r : Asked} {p : Form} {x : Obj} (S : Setting) (k : ℕ) → Questioned F C W top h v m r C₁ W₁ → r ≡ Yes n → At F S h p → Given F S k C W m v x → Said C W top m (by S k p x m) isT n C₁ W₁
+on-yes {p = p} {x} S k a e at gv = said-yes (asked-as e a .means S k p x at gv)
+
+pub on-no : {F C W C₁ W₁ : List ℕ} {top h : ℕ} {v : Val} {m n : Meter} {r : Asked} {p : Form} {x : Obj} (S : Setting) (k : ℕ) → Questioned F C W top h v m r C₁ W₁ → r ≡ No n → At F S h p → Given F S k C W m v x → Said C W top m (by S k p x m) isF n C₁ W₁
+on-no {p = p} {x} S k a e at gv = said-no (asked-as e a .means S k p x at gv)
+
+pub on-stop : {F C W C₁ W₁ : List ℕ} {top h a : ℕ} {v : Val} {m n : Meter} {r : Asked} {p : Form} {x : Obj} (S : Setting) (k : ℕ) → Questioned F C W top h v m r C₁ W₁ → r ≡ AskStop a n → At F S h p → Given F S k C W m v x → (onT onF : Meter → Out Obj) → Stopped (bind (by S k p x m) (λ b m₁. decide b m₁ onT onF)) a n
+on-stop {p = p} {x} S k a e at gv = said-stop (asked-as e a .means S k p x at gv)
+
+pub decided-yes : {C W C₁ W₁ : List ℕ} {top : ℕ} {m n : Meter} {e : Out Obj} (onT onF : Meter → Out Obj) → Said C W top m e isT n C₁ W₁ → bind e (λ b m₁. decide b m₁ onT onF) ≡ onT n
+decided-yes {n = n} onT onF u = ap (λ w. bind w (λ b m₁. decide b m₁ onT onF)) (u .done .is) ∙ decide-true (u .done .obj) n onT onF (u .says)
+
+pub decided-no : {C W C₁ W₁ : List ℕ} {top : ℕ} {m n : Meter} {e : Out Obj} (onT onF : Meter → Out Obj) → Said C W top m e isF n C₁ W₁ → bind e (λ b m₁. decide b m₁ onT onF) ≡ onF n
+decided-no {n = n} onT onF u = ap (λ w. bind w (λ b m₁. decide b m₁ onT onF)) (u .done .is) ∙ decide-false (u .done .obj) n onT onF (u .says)
+
+-- ---- a condition
+pub cond-stop : {F C W C₁ W₁ : List ℕ} {top h a : ℕ} {v : Val} {m n : Meter} {r : Asked} → Questioned F C W top h v m r C₁ W₁ → r ≡ AskStop a n → Chosen F C W top h v m (Stop a n) C₁ W₁
+cond-stop a e = record { sinks = tt; means = λ S k p f g x at ft gt gv. ends-stop (on-stop S k a e at gv (by S k f x) (by S k g x)) }
+
+pub cond-true : {F C W C₁ W₁ C₂ W₂ : List ℕ} {top h j : ℕ} {v : Val} {m n : Meter} {r : Asked} {r₂ : Ended} → Questioned F C W top h v m r C₁ W₁ → r ≡ Yes n → j ≡ linkAt F h → Applied F C₁ W₁ top j v n r₂ C₂ W₂ → Chosen F C W top h v m r₂ C₂ W₂
+cond-true {m = m} {n} {r₂ = r₂} a e z b = record {
+  sinks = sinks-after r₂ m n (b .falls) (yes-fell a e);
+  means = λ S k p f g x at ft gt gv.
+      let u = on-yes S k a e at gv in
+      ends-eq (decided-yes (by S k f x) (by S k g x) u) (ends-since (since (u .done)) (b .means S k f x (rw z ft) (given-again gv (yes-fell a e) (u .done))));
+}
+
+pub cond-false : {F C W C₁ W₁ C₂ W₂ : List ℕ} {top h j i : ℕ} {v : Val} {m n : Meter} {r : Asked} {r₂ : Ended} → Questioned F C W top h v m r C₁ W₁ → r ≡ No n → j ≡ linkAt F h → i ≡ linkAt F j → Applied F C₁ W₁ top i v n r₂ C₂ W₂ → Chosen F C W top h v m r₂ C₂ W₂
+cond-false {m = m} {n} {r₂ = r₂} a e z z₂ b = record {
+  sinks = sinks-after r₂ m n (b .falls) (no-fell a e);
+  means = λ S k p f g x at ft gt gv.
+      let u = on-no S k a e at gv in
+      ends-eq (decided-no (by S k f x) (by S k g x) u) (ends-since (since (u .done)) (b .means S k g x (rw (z₂, z) gt) (given-again gv (no-fell a e) (u .done))));
+}
+
+-- ---- a name
+none-named : {F C : List ℕ} {n d : ℕ} {root : List ℕ → ℕ} {b : Option Form} (ev : Apply) (x : Obj) (m : Meter) → d ≡ 0 → DefAt F C n root d b → nameBy ev b x m ≡ bottom m
+none-named ev x m z (no-def e) = refl
+none-named ev x m z (a-def {i = i} e f) = absurd (omega arith)
+
+pub name-none : {F C W : List ℕ} {top d : ℕ} {v : Val} {m : Meter} → d ≡ 0 → Named F C W top d v m (Stop 21 m) C W
+name-none {m = m} z = record { sinks = tt; means = λ S k w x nm q gv. ends-stop (fell (none-named (by S k) x m (sym q ∙ z) (gv .defs w nm)) refl (agree-refl m)) }
+
+-- a defined name is asked for, and then its body
+body-asked : {b : Option Form} (ev : Apply) (f : Form) (x : Obj) (m : Meter) → b ≡ some f → nameBy ev b x m ≡ onCharge (nameCharge m) noName (λ m₁. close (m .names) (ev f x m₁))
+body-asked ev f x m e = ap (λ u. nameBy ev u x m) e ∙ name-asked m (λ m₁. ev f x m₁)
+
+-- the form that a name stands for
+pub record Body (F : List ℕ) (S : Setting) (w : List ℕ) (d : ℕ) : Type 0 where
+  pub form : Form
+  pub is : lookup w (S .prog) ≡ some form
+  pub at : At F S (d - 1) form
+
+body-of : {F C : List ℕ} {n d : ℕ} {root : List ℕ → ℕ} {b : Option Form} → (d ≡ 0 → ⊥) → DefAt F C n root d b → (f : Form) × (b ≡ some f) × FormAt F C n root (d - 1) f
+body-of z (no-def e) = absurd (z e)
+body-of {d = d} z (a-def {i = i} {f = f} e a) = let q : d - 1 ≡ i = omega arith in (f, refl, rw q a)
+
+body : {F C W : List ℕ} {S : Setting} {k d : ℕ} {v : Val} {m : Meter} {x : Obj} (w : List ℕ) → IsName w → (d ≡ 0 → ⊥) → d ≡ S .root w → Given F S k C W m v x → Body F S w d
+body {F} {S = S} w nm z q gv =
+    let b = body-of (λ e. z (q ∙ e)) (gv .defs w nm) in
+    record { form = b .0; is = b .1; at = subst (λ (j : ℕ). At F S (j - 1) (b .0)) (sym q) (b .2) }
+
+pub name-full : {F C W : List ℕ} {top d : ℕ} {v : Val} {m n : Meter} {ch : Charge} → (d ≡ 0 → ⊥) → ch ≡ nameCharge m → ch ≡ Spent n → Named F C W top d v m (Stop 23 n) C W
+name-full {m = m} {n} z a b = record {
+  sinks = tt;
+  means = λ S k w x nm q gv. let y = body w nm z q gv in
+      ends-stop (ran-out (body-asked (by S k) (y .form) x m (y .is) ∙ ap (λ u. onCharge u noName (λ m₁. close (m .names) (by S k (y .form) x m₁))) (sym a ∙ b)) refl (agree-refl n));
+}
+
+pub name-stop : {F C W C₁ W₁ : List ℕ} {top d a : ℕ} {v : Val} {m m₁ n : Meter} {ch : Charge} {r : Ended} → (d ≡ 0 → ⊥) → ch ≡ nameCharge m → ch ≡ Granted m₁ → Applied F C W top (d - 1) v m₁ r C₁ W₁ → r ≡ Stop a n → Named F C W top d v m (Stop a n) C₁ W₁
+name-stop {m = m} {m₁} z a b p e = record {
+  sinks = tt;
+  means = λ S k w x nm q gv. let y = body w nm z q gv in
+      let c = name-granted m (sym a ∙ b) in
+      ends-stop (stopped-eq (body-asked (by S k) (y .form) x m (y .is) ∙ ap (λ u. onCharge u noName (λ m₁. close (m .names) (by S k (y .form) x m₁))) (sym a ∙ b))
+      (stopped-close (m .names) (gave-stop (applied-as e p .means S k (y .form) x (y .at) (given-charged 0 1 k c (omega arith) gv)))));
+}
+
+-- the names are as before once the name is closed
+closed-body : {C W C₁ W₁ : List ℕ} {top : ℕ} {y : Val} {m m₁ n n₁ : Meter} {e e₁ : Out Obj} → e ≡ close (m .names) e₁ → m .names < 4294967296 → Left m m₁ 0 1 0 → n₁ ≡ closed n → Finished C W top m₁ e₁ y n C₁ W₁ → Finished C W top m e y n₁ C₁ W₁
+closed-body {C} {C₁ = C₁} {m = m} {m₁} {n} q l c z u =
+    let w : closed n ≡ withNames (m .names) n = closed-is (m .names) n (omega (arith, u .names, c .names)) l in
+    let f : free C m ≡ free C m₁ = omega (arith, c .cells) in
+    let k : m₁ .cells ≡ m .cells = omega (arith, c .cells) in
+    rw (z, w) (record {
+      obj = u .obj;
+      is = q ∙ ap (λ h. close (m .names) h) (u .is);
+      made = record { rep = u .made .rep; same = rw f (u .made .same); room = record { fits = u .made .room .fits; small = u .made .room .small }; fewer = omega (arith, u .made .fewer); long = u .made .long };
+      ring = u .ring;
+      kept = record { keep = λ d h s. u .kept .keep d h (omega arith) };
+      names = refl;
+    })
+
+closed-steps : (n : Meter) → closed n .steps ≡ n .steps
+unfolding closed
+closed-steps n = go (leb 4294967295 (n .names)) refl
+  where
+    go : (b : Bool) → leb 4294967295 (n .names) ≡ b → cond (leb 4294967295 (n .names)) n (record { steps = n .steps; names = n .names + 1; cells = n .cells }) .steps ≡ n .steps
+    go true e = rw e
+    go false e = rw e
+
+closed-sinks : (m n n₁ : Meter) → n .steps ≤ m .steps → n₁ ≡ closed n → n₁ .steps ≤ m .steps
+closed-sinks m n n₁ h e = omega (arith, closed-steps n, ap (λ u. u .steps) e)
+
+pub name-done : {F C W C₁ W₁ : List ℕ} {top d : ℕ} {v y : Val} {m m₁ n n₁ : Meter} {ch : Charge} {r : Ended} → (d ≡ 0 → ⊥) → m .names < 4294967296 → ch ≡ nameCharge m → ch ≡ Granted m₁ → Applied F C W top (d - 1) v m₁ r C₁ W₁ → r ≡ Done y n → n₁ ≡ closed n → Named F C W top d v m (Done y n₁) C₁ W₁
+name-done {m = m} {m₁} {n} {n₁} z l a b p e cl =
+    let c = name-granted m (sym a ∙ b) in
+    let p₁ = applied-as e p in
+    record {
+      sinks = closed-sinks m n n₁ (omega (arith, p₁ .falls, c .steps)) cl;
+      means = λ S k w x nm q gv. let y = body w nm z q gv in
+          ends-done (closed-body (body-asked (by S k) (y .form) x m (y .is) ∙ ap (λ u. onCharge u noName (λ m₁. close (m .names) (by S k (y .form) x m₁))) (sym a ∙ b)) l c cl
+          (gave (p₁ .means S k (y .form) x (y .at) (given-charged 0 1 k c (omega arith) gv))));
+    }

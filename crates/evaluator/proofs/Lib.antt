@@ -1,0 +1,9 @@
+pub mod Steps
+pub mod Chains
+pub mod Waits
+pub mod Builds
+pub mod Repeats
+pub mod Pairs
+pub mod Applies
+pub mod Numbers
+pub mod Verdicts

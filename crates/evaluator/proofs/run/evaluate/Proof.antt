@@ -1,0 +1,56 @@
+-- `evaluate` meets its contract: what `name` ensures, with 4,096 places to wait in.
+use lib.ListN.{length-replicate}
+use Rattle.evaluator.proofs.Applies.{ran-spent, ran}
+use native.Mathlib.Omega.{arith}
+use borrow.Author.Needs.{needs}
+use Rattle.evaluator.proofs.run.evaluate.Statement.{statement}
+use Rattle.evaluator.proofs.run.evaluate.Tie as tie
+use Rattle.evaluator.proofs.run.evaluate.Reads as reads
+use Rattle.evaluator.proofs.run.evaluate.Lts as lts
+use Rattle.evaluator.proofs.cycle.name.Reads as name-reads
+use Rattle.language.proofs.Meter.charge_step.Reads as charge-step-reads
+
+-- let k = match m.charge_step() {
+charge-step-requires : tie.Need-charge-step-requires
+charge-step-requires c κs = search needs
+
+-- Charge::Spent(k) => return Ended::Stop(22, k),
+enum-known-k : tie.Need-enum-known-k
+enum-known-k c = search needs
+
+-- Charge::Spent(k) => return Ended::Stop(22, k),
+returns : tie.Need-returns
+returns c = search ran-spent
+
+-- Charge::Granted(k) => k,
+enum-known-k-2 : tie.Need-enum-known-k-2
+enum-known-k-2 c = search needs
+
+-- name(forms, c, &mut w, 0, root, v, k)
+slice-aggregate-name : tie.Need-slice-aggregate-name
+slice-aggregate-name c = search needs
+
+-- name(forms, c, &mut w, 0, root, v, k)
+name-requires : tie.Need-name-requires
+name-requires c κs = search needs
+
+-- pub fn evaluate(forms: &[u32], c: &mut [u32], root: u32, v: Val, m: Meter) -> Ended
+same-length : tie.Need-same-length
+same-length c = search needs
+
+-- pub fn evaluate(forms: &[u32], c: &mut [u32], root: u32, v: Val, m: Meter) -> Ended
+returns-2 : tie.Need-returns-2
+returns-2 c = search ran
+
+pub evaluate-spec : {M : Type 1} → statement M
+evaluate-spec =
+    tie.close
+    (tie.spec
+    charge-step-requires
+    enum-known-k
+    returns
+    enum-known-k-2
+    slice-aggregate-name
+    name-requires
+    same-length
+    returns-2)

@@ -1,0 +1,235 @@
+// Applications of linked forms: f holds the forms, c the cells, w the ring of values that wait, of which those from top on
+// are free. Each function calls the others with fewer steps left.
+ghost use Rattle.evaluator.specs.Applying.{Applied, Chained, Slotted, Built, Mapped, Folded, Inserted, Questioned, Repeated, Bound, Chosen, Named};
+use crate::forms::{arity, constant, inner, kind, low, next};
+use crate::waiting::{Asked, collect, place, verdict};
+use language::{Charge, Meter, Val};
+use primitives::{apply_word, select, select_right, Ended};
+
+// One application of the form at i to v.
+pub fn apply(f: &[u32], c: &mut [u32], w: &mut [u32], top: u32, i: u32, v: Val, m: Meter) -> Ended
+    ensures { λ r. ⌜ Applied (now (f .entry)) (now (c .entry)) (now (w .entry)) top i v m r (now (c .exit)) (now (w .exit)) ⌝ }
+{
+    let k = match m.charge_step() {
+        Charge::Spent(k) => return Ended::Stop(22, k),
+        Charge::Granted(k) => k,
+    };
+    let h = inner(i);
+    let shape = kind(f, i);
+    match shape {
+        1 => apply_word(low(f, i), c, v, k),
+        2 => select(c, low(f, i), v, k),
+        3 => select_right(c, low(f, i), v, k),
+        4 => name(f, c, w, top, arity(f, i), v, k),
+        5 => chain(f, c, w, top, low(f, i), v, k),
+        6 => construct(f, c, w, top, h, arity(f, i), v, k),
+        7 => insert(f, c, w, top, h, v, k),
+        8 => each(f, c, w, top, h, v, k),
+        9 => condition(f, c, w, top, h, v, k),
+        10 => repeat(f, c, w, top, h, v, k),
+        12 => Ended::Done(constant(f, i), k),
+        16 => bu(f, c, w, top, h, constant(f, i), v, k),
+        _ => Ended::Stop(21, k),
+    }
+}
+
+// The parts of a chain whose last is at j, the last first.
+pub fn chain(f: &[u32], c: &mut [u32], w: &mut [u32], top: u32, last: u32, v: Val, m: Meter) -> Ended
+    ensures { λ r. ⌜ Chained (now (f .entry)) (now (c .entry)) (now (w .entry)) top last v m r (now (c .exit)) (now (w .exit)) ⌝ }
+{
+    let mut j = last;
+    let mut x = v;
+    let mut n = m;
+    while j != 0 {
+        match apply(f, c, w, top, j, x, n) {
+            Ended::Done(y, k) => {
+                x = y;
+                n = k;
+            }
+            Ended::Stop(a, k) => return Ended::Stop(a, k),
+        }
+        j = next(f, j);
+    }
+    Ended::Done(x, n)
+}
+
+// One application of the form at i, whose value then waits at top.
+pub fn slot(f: &[u32], c: &mut [u32], w: &mut [u32], top: u32, i: u32, v: Val, m: Meter) -> Ended
+    ensures { λ r. ⌜ Slotted (now (f .entry)) (now (c .entry)) (now (w .entry)) top i v m r (now (c .exit)) (now (w .exit)) ⌝ }
+{
+    match apply(f, c, w, top, i, v, m) {
+        Ended::Done(y, k) => {
+            cells::hold(w, top as usize, y);
+            Ended::Done(y, k)
+        }
+        Ended::Stop(a, k) => Ended::Stop(a, k),
+    }
+}
+
+// The many parts of a construction from the one at h on, the first first; then a cell for each.
+pub fn construct(f: &[u32], c: &mut [u32], w: &mut [u32], top: u32, h: u32, many: u32, v: Val, m: Meter) -> Ended
+    ensures { λ r. ⌜ Built (now (f .entry)) (now (c .entry)) (now (w .entry)) top h many v m r (now (c .exit)) (now (w .exit)) ⌝ }
+{
+    let mut j = h;
+    let mut q: u32 = 0;
+    let mut n = m;
+    while q < many {
+        let t = place(top, q);
+        match slot(f, c, w, t, j, v, n) {
+            Ended::Done(_, k) => n = k,
+            Ended::Stop(a, k) => return Ended::Stop(a, k),
+        }
+        j = next(f, j);
+        q += 1;
+    }
+    collect(c, w, top, many, n)
+}
+
+// The form at g on each place of v, from left to right; then a cell for each.
+pub fn each(f: &[u32], c: &mut [u32], w: &mut [u32], top: u32, g: u32, v: Val, m: Meter) -> Ended
+    ensures { λ r. ⌜ Mapped (now (f .entry)) (now (c .entry)) (now (w .entry)) top g v m r (now (c .exit)) (now (w .exit)) ⌝ }
+{
+    if v.tag != 3 {
+        return Ended::Stop(21, m);
+    }
+    let many = cells::size(v);
+    let mut s = v;
+    let mut q: u32 = 0;
+    let mut n = m;
+    while q < many {
+        let t = place(top, q);
+        let x = cells::head(c, s);
+        match slot(f, c, w, t, g, x, n) {
+            Ended::Done(_, k) => n = k,
+            Ended::Stop(a, k) => return Ended::Stop(a, k),
+        }
+        s = cells::tail(c, s);
+        q += 1;
+    }
+    collect(c, w, top, many, n)
+}
+
+// The form at g on the pair of the place q of s and v.
+pub fn fold(f: &[u32], c: &mut [u32], w: &mut [u32], top: u32, g: u32, s: Val, q: u32, v: Val, m: Meter) -> Ended
+    ensures { λ r. ⌜ Folded (now (f .entry)) (now (c .entry)) (now (w .entry)) top g s q v m r (now (c .exit)) (now (w .exit)) ⌝ }
+{
+    let p = cells::free_cell(c, m);
+    match m.charge_cells(2) {
+        Charge::Spent(k) => Ended::Stop(24, k),
+        Charge::Granted(k) => {
+            let x = cells::nth(c, s, q);
+            let y = cells::pair(c, p, x, v);
+            apply(f, c, w, top, g, y, k)
+        }
+    }
+}
+
+// The form at g between the places of v, from the right.
+pub fn insert(f: &[u32], c: &mut [u32], w: &mut [u32], top: u32, g: u32, v: Val, m: Meter) -> Ended
+    ensures { λ r. ⌜ Inserted (now (f .entry)) (now (c .entry)) (now (w .entry)) top g v m r (now (c .exit)) (now (w .exit)) ⌝ }
+{
+    if v.tag != 3 {
+        return Ended::Stop(21, m);
+    }
+    let many = cells::size(v);
+    if many == 0 {
+        return Ended::Stop(21, m);
+    }
+    let mut q = many - 1;
+    let mut y = cells::nth(c, v, q);
+    let mut n = m;
+    while 0 < q {
+        q -= 1;
+        match fold(f, c, w, top, g, v, q, y, n) {
+            Ended::Done(z, k) => {
+                y = z;
+                n = k;
+            }
+            Ended::Stop(a, k) => return Ended::Stop(a, k),
+        }
+    }
+    Ended::Done(y, n)
+}
+
+// The question at h on v, and what its value says.
+pub fn ask(f: &[u32], c: &mut [u32], w: &mut [u32], top: u32, h: u32, v: Val, m: Meter) -> Asked
+    ensures { λ r. ⌜ Questioned (now (f .entry)) (now (c .entry)) (now (w .entry)) top h v m r (now (c .exit)) (now (w .exit)) ⌝ }
+{
+    match apply(f, c, w, top, h, v, m) {
+        Ended::Stop(a, k) => Asked::Stop(a, k),
+        Ended::Done(y, k) => {
+            let b = verdict(y);
+            if b == 1 {
+                return Asked::Yes(k);
+            }
+            if b == 0 {
+                return Asked::No(k);
+            }
+            Asked::Stop(21, k)
+        }
+    }
+}
+
+// A while: the form behind the question at h again, as long as the question says T.
+pub fn repeat(f: &[u32], c: &mut [u32], w: &mut [u32], top: u32, h: u32, v: Val, m: Meter) -> Ended
+    ensures { λ r. ⌜ Repeated (now (f .entry)) (now (c .entry)) (now (w .entry)) top h v m r (now (c .exit)) (now (w .exit)) ⌝ }
+{
+    let g = next(f, h);
+    let mut x = v;
+    let mut n = m;
+    loop {
+        match ask(f, c, w, top, h, x, n) {
+            Asked::Stop(a, k) => return Ended::Stop(a, k),
+            Asked::No(k) => return Ended::Done(x, k),
+            Asked::Yes(k) => match apply(f, c, w, top, g, x, k) {
+                Ended::Stop(a, l) => return Ended::Stop(a, l),
+                Ended::Done(z, l) => {
+                    x = z;
+                    n = l;
+                }
+            },
+        }
+    }
+}
+
+// The form at g on the pair of the constant a and v.
+pub fn bu(f: &[u32], c: &mut [u32], w: &mut [u32], top: u32, g: u32, a: Val, v: Val, m: Meter) -> Ended
+    ensures { λ r. ⌜ Bound (now (f .entry)) (now (c .entry)) (now (w .entry)) top g a v m r (now (c .exit)) (now (w .exit)) ⌝ }
+{
+    let p = cells::free_cell(c, m);
+    match m.charge_cells(2) {
+        Charge::Spent(k) => Ended::Stop(24, k),
+        Charge::Granted(k) => {
+            let y = cells::pair(c, p, a, v);
+            apply(f, c, w, top, g, y, k)
+        }
+    }
+}
+
+// A condition: the question at h, then the first form behind it on T, the second on F.
+pub fn condition(f: &[u32], c: &mut [u32], w: &mut [u32], top: u32, h: u32, v: Val, m: Meter) -> Ended
+    ensures { λ r. ⌜ Chosen (now (f .entry)) (now (c .entry)) (now (w .entry)) top h v m r (now (c .exit)) (now (w .exit)) ⌝ }
+{
+    let j = next(f, h);
+    match ask(f, c, w, top, h, v, m) {
+        Asked::Stop(a, k) => Ended::Stop(a, k),
+        Asked::Yes(k) => apply(f, c, w, top, j, v, k),
+        Asked::No(k) => apply(f, c, w, top, next(f, j), v, k),
+    }
+}
+
+// The body of a name, whose record and one is d, with one more name open; 0 if it is undefined.
+pub fn name(f: &[u32], c: &mut [u32], w: &mut [u32], top: u32, d: u32, v: Val, m: Meter) -> Ended
+    ensures { λ r. ⌜ Named (now (f .entry)) (now (c .entry)) (now (w .entry)) top d v m r (now (c .exit)) (now (w .exit)) ⌝ }
+{
+    if d == 0 {
+        return Ended::Stop(21, m);
+    }
+    match m.open_name() {
+        Charge::Spent(k) => Ended::Stop(23, k),
+        Charge::Granted(k) => match apply(f, c, w, top, d - 1, v, k) {
+            Ended::Stop(a, l) => Ended::Stop(a, l),
+            Ended::Done(y, l) => Ended::Done(y, l.close_name()),
+        },
+    }
+}

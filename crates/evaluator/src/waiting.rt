@@ -1,0 +1,47 @@
+// Values that wait in the ring, and what a question's value says.
+ghost use mathlib.Core.Path.{_≡_};
+ghost use Prim.Native.Nat.{_+_, _%_};
+ghost use Rattle.evaluator.specs.Applying.{Collected, Judged};
+use language::{Charge, Meter, Val};
+use primitives::Ended;
+
+// What a question says: T, F, or that the run stops, with what is left of the budgets.
+pub enum Asked {
+    Yes(Meter),
+    No(Meter),
+    Stop(u32, Meter),
+}
+
+// The place of the ring that is q places above top.
+pub fn place(top: u32, q: u32) -> u32
+    ensures { λ r. ⌜ r ≡ (top + q) % 4096 ⌝ }
+{
+    ((top as u64 + q as u64) % 4096) as u32
+}
+
+// The sequence of the many values that wait from top on, with a cell for each.
+pub fn collect(c: &mut [u32], w: &[u32], top: u32, many: u32, m: Meter) -> Ended
+    ensures { λ r. ⌜ Collected (now (c .entry)) (now (w .entry)) top many m r (now (c .exit)) ⌝ }
+{
+    let p = cells::free_cell(c, m);
+    match m.charge_cells(many) {
+        Charge::Spent(k) => Ended::Stop(24, k),
+        Charge::Granted(k) => {
+            let v = cells::gather(c, w, top, many, p);
+            Ended::Done(v, k)
+        }
+    }
+}
+
+// 1 for T, 0 for F, 2 for anything else. T and F are packed as 20 and 6.
+pub fn verdict(v: Val) -> u32
+    ensures { λ r. ⌜ Judged v r ⌝ }
+{
+    if v.tag != 2 {
+        return 2;
+    }
+    if v.word == 20 {
+        return 1;
+    }
+    if v.word == 6 { 0 } else { 2 }
+}

@@ -1,0 +1,1 @@
+// How a program lies in the form table is said in specs/; readers, writers and laws cite it.

@@ -1,0 +1,63 @@
+-- Linked forms with the records that they take up, and what the link pass does.
+use Prim.Native.Nat.{ℕ, zero, suc, _+_, _*_, _/_, _%_, _≤_, _<_}
+use mathlib.Core.Path.{_≡_}
+use mathlib.Core.List.{List, [], _∷_}
+use lib.ListN.{getD, length}
+use Rattle.language.specs.Objects.{Obj}
+use Rattle.language.specs.Words.{Op}
+use Rattle.language.specs.Forms.{op, select, selectRight, Form, word, name, chain, construct, constant, insert, applyAll, bu, condition, while, Forms, stop, _&_, _+&_, count}
+use Rattle.language.specs.Accepted.{IsName}
+use Rattle.tables.specs.Tables.{field}
+use Rattle.cells.specs.Cells.{Rep}
+use Rattle.lexer.specs.Vocabulary.{opCode}
+use Rattle.linker.specs.Linked.{kindAt, linkAt, constantAt}
+use Rattle.linker.specs.Raw.{partsOf, Raw, Stands, rootIn}
+use Rattle.linker.specs.declared.Turned.{Turned}
+
+-- what a linked record says of a form that is no chain
+pub data Row (F C : List ℕ) (n : ℕ) (root : List ℕ → ℕ) (i : ℕ) : Form → Type 0 where
+  row-op : {o : Op} → kindAt F i ≡ 1 → field F i 2 ≡ opCode o → Row F C n root i (word (op o))
+  row-select : {k : ℕ} → kindAt F i ≡ 2 → field F i 2 ≡ k → Row F C n root i (word (select k))
+  row-select-right : {k : ℕ} → kindAt F i ≡ 3 → field F i 2 ≡ k → Row F C n root i (word (selectRight k))
+  row-name : {w : List ℕ} → IsName w → kindAt F i ≡ 4 → field F i 1 ≡ root w → Row F C n root i (name w)
+  row-construct : {fs : Forms} → kindAt F i ≡ 6 → field F i 1 ≡ count fs → Row F C n root i (construct fs)
+  row-insert : {f : Form} → kindAt F i ≡ 7 → Row F C n root i (insert f)
+  row-all : {f : Form} → kindAt F i ≡ 8 → Row F C n root i (applyAll f)
+  row-condition : {p f g : Form} → kindAt F i ≡ 9 → Row F C n root i (condition p f g)
+  row-while : {p f : Form} → kindAt F i ≡ 10 → Row F C n root i (while p f)
+  row-constant : {x : Obj} → kindAt F i ≡ 12 → Rep C n (constantAt F i) x → Row F C n root i (constant x)
+  row-bu : {f : Form} {x : Obj} → kindAt F i ≡ 16 → Rep C n (constantAt F i) x → Row F C n root i (bu f x)
+
+mutual
+  -- a form in the records from i up to e
+  pub data Tree (F C : List ℕ) (n : ℕ) (root : List ℕ → ℕ) : ℕ → Form → ℕ → Type 0 where
+    tree : {i e : ℕ} {f : Form} → i < 2048 → Row F C n root i f → Kids F C n root (i + 1) (partsOf f) e → Tree F C n root i f e
+    tree-chain : {i e : ℕ} {fs : Forms} → i < 2048 → kindAt F i ≡ 5 → Back F C n root 0 (i + 1) fs e (field F i 2) → Tree F C n root i (chain fs) e
+
+  -- forms from j up to e, one behind the other, each leading to what follows it
+  pub data Kids (F C : List ℕ) (n : ℕ) (root : List ℕ → ℕ) : ℕ → Forms → ℕ → Type 0 where
+    no-kid : {j : ℕ} → Kids F C n root j stop j
+    a-kid : {j m e : ℕ} {f : Form} {fs : Forms} → Tree F C n root j f m → linkAt F j ≡ m → Kids F C n root m fs e → Kids F C n root j (f & fs) e
+
+  -- the same, but each leads to the one before it: the first to `before`; the last is at z
+  pub data Back (F C : List ℕ) (n : ℕ) (root : List ℕ → ℕ) : ℕ → ℕ → Forms → ℕ → ℕ → Type 0 where
+    no-back : {before j : ℕ} → Back F C n root before j stop j before
+    a-back : {before j m e z : ℕ} {f : Form} {fs : Forms} → Tree F C n root j f m → linkAt F j ≡ before → Back F C n root j m fs e z → Back F C n root before j (f & fs) e z
+
+-- the end of the first q forms from `start` on
+pub record Walked (t : List ℕ) (start q r : ℕ) : Type 0 where
+  pub means : (C : List ℕ) (n : ℕ) (root : List ℕ → ℕ) (gs fs : Forms) (e : ℕ) → count gs ≡ q → Kids t C n root start (gs +& fs) e → Kids t C n root start gs r × Kids t C n root r fs e
+
+-- every number before index k is as it was
+pub record Before (t u : List ℕ) (k : ℕ) : Type 0 where
+  pub keep : (j : ℕ) → j < k → getD u j 0 ≡ getD t j 0
+
+-- the links of the first q forms from `start` on turned round
+pub record Reversed (t : List ℕ) (start q : ℕ) (r : Turned) (u : List ℕ) : Type 0 where
+  pub means : (C : List ℕ) (n : ℕ) (root : List ℕ → ℕ) (gs fs : Forms) (e : ℕ) → count gs ≡ q → e ≤ 2048 → e * 4 ≤ length t → Kids t C n root start (gs +& fs) e → Back u C n root 0 start gs (r .rest) (r .last) × Kids u C n root (r .rest) fs e × Before t u (start * 4)
+
+pub record OneLinked (t : List ℕ) (i : ℕ) (D : List ℕ) (many : ℕ) (u : List ℕ) : Type 0 where
+  pub means : (C : List ℕ) (n : ℕ) (f : Form) (fs : Forms) (e : ℕ) → i < e → e ≤ 2048 → e * 4 ≤ length t → Raw t C n i f → field t i 1 ≡ count (partsOf f) → Kids t C n (rootIn D many) (i + 1) (partsOf f +& fs) e → Kids u C n (rootIn D many) i (f & fs) e × Before t u (i * 4)
+
+pub record AllLinked (t : List ℕ) (total : ℕ) (D : List ℕ) (many : ℕ) (u : List ℕ) : Type 0 where
+  pub means : (C : List ℕ) (n : ℕ) (fs : Forms) → total ≤ 2048 → total * 4 ≤ length t → Stands t C n total 0 fs → Kids u C n (rootIn D many) 0 fs total

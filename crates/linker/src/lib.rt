@@ -1,0 +1,122 @@
+// The link pass: a raw form table is made ready for evaluation, in place and from the back. A raw record is
+// [kind, arity, lo, hi]; a linked one has the record of the part to evaluate next, times 32, added to its kind.
+ghost use mathlib.Core.Path.{_≡_};
+ghost use Prim.Native.Nat.{_+_, _*_, _/_, _%_, _<_};
+ghost use lib.ListN.{getD};
+ghost use Rattle.linker.specs.Raw.{named, rootFrom, linkSet};
+ghost use Rattle.linker.specs.Linking.{Walked, Reversed, OneLinked, AllLinked};
+
+// Where the form at i leads to.
+pub fn next(t: &[u32], i: u32) -> u32
+    ensures { λ r. ⌜ r ≡ getD (now (t .entry)) (i * 4) 0 / 32 ⌝ }
+{
+    tables::at(t, i as usize * 4) / 32
+}
+
+// Lets the form at i lead to `link`.
+fn set_link(t: &mut [u32], i: u32, link: u32)
+    ensures { λ _. ⌜ now (t .exit) ≡ linkSet (now (t .entry)) i link ⌝ }
+{
+    let kind = tables::at(t, i as usize * 4) % 32;
+    tables::store(t, i as usize * 4, kind + 32 * (link % 134217728));
+}
+
+// The end of n forms that lead from one to the next, from the one at start on.
+fn walk(t: &[u32], start: u32, n: u32) -> u32
+    ensures { λ r. ⌜ Walked (now (t .entry)) start n r ⌝ }
+{
+    let mut j = start;
+    let mut q: u32 = 0;
+    while q < n {
+        j = next(t, j);
+        q += 1;
+    }
+    j
+}
+
+// The last of n forms, and their end.
+struct Turned {
+    last: u32,
+    rest: u32,
+}
+
+// Turns the links of n forms round: each leads to the one before it, the first to 0.
+fn reverse(t: &mut [u32], start: u32, n: u32) -> Turned
+    ensures { λ r. ⌜ Reversed (now (t .entry)) start n r (now (t .exit)) ⌝ }
+{
+    let mut j = start;
+    let mut before: u32 = 0;
+    let mut q: u32 = 0;
+    while q < n {
+        let behind = next(t, j);
+        set_link(t, j, before);
+        before = j;
+        j = behind;
+        q += 1;
+    }
+    Turned {
+        last: before,
+        rest: j,
+    }
+}
+
+// Whether definition d has the name [lo, hi].
+fn has_name(defs: &[u32], d: u32, lo: u32, hi: u32) -> bool
+    ensures { λ r. ⌜ r ≡ named (now (defs .entry)) d lo hi ⌝ }
+{
+    let i = d as usize * 4;
+    if tables::at(defs, i) != lo {
+        return false;
+    }
+    tables::at(defs, i + 1) == hi
+}
+
+// The record of the body of the name [lo, hi], and one, in the first `count` definitions; 0 if there is none.
+fn root_of(defs: &[u32], count: u32, lo: u32, hi: u32) -> u32
+    ensures { λ r. ⌜ r ≡ rootFrom (now (defs .entry)) count lo hi 0 ⌝ }
+{
+    let mut d: u32 = 0;
+    while d < count {
+        if has_name(defs, d, lo, hi) {
+            let root = tables::at(defs, d as usize * 4 + 2) as u64;
+            return ((root + 1) % 4294967296) as u32;
+        }
+        d += 1;
+    }
+    0
+}
+
+// Links the form at i, whose parts and all that follows them are linked: it leads to what follows its parts.
+fn link_one(t: &mut [u32], i: u32, defs: &[u32], count: u32)
+    requires { ⌜ i < 4294967295 ⌝ }
+    ensures { λ _. ⌜ OneLinked (now (t .entry)) i (now (defs .entry)) count (now (t .exit)) ⌝ }
+{
+    let k = i as usize * 4;
+    let kind = tables::at(t, k) % 32;
+    let arity = tables::at(t, k + 1);
+    if kind == 5 {
+        let r = reverse(t, i + 1, arity);
+        tables::store(t, k + 2, r.last);
+        set_link(t, i, r.rest);
+        return;
+    }
+    if kind == 4 {
+        let root = root_of(defs, count, tables::at(t, k + 2), tables::at(t, k + 3));
+        tables::store(t, k + 1, root);
+        set_link(t, i, i + 1);
+        return;
+    }
+    let rest = walk(t, i + 1, arity);
+    set_link(t, i, rest);
+}
+
+// Links the first `total` records, from the last to the first; names by the first `count` definitions.
+pub fn link(t: &mut [u32], total: u32, defs: &[u32], count: u32)
+    ensures { λ _. ⌜ AllLinked (now (t .entry)) total (now (defs .entry)) count (now (t .exit)) ⌝ }
+{
+    let mut i = total;
+    while 0 < i {
+        i -= 1;
+        link_one(t, i, defs, count);
+    }
+}

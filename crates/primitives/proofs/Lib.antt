@@ -1,0 +1,9 @@
+pub mod Ending
+pub mod Shaped
+pub mod Asked
+pub mod Numbered
+pub mod Judged
+pub mod Selected
+pub mod Made
+pub mod Transposed
+pub mod Dispatched

@@ -1,0 +1,60 @@
+-- `apndl` answers as its word means.
+use borrow.Author.Needs.{needs}
+use Rattle.primitives.proofs.Made.{apndl-atom, apndl-short, apndl-is}
+use Rattle.primitives.proofs.appending.apndl.Statement.{statement}
+use Rattle.primitives.proofs.appending.apndl.Tie as tie
+
+-- return Ended::Stop(21, m);
+returns : tie.Need-returns
+returns c = search apndl-atom
+
+-- match asking::reserve(c, 14, cells::size(b), 0, m) {
+size-requires : tie.Need-size-requires
+size-requires c κs = search needs
+
+-- match asking::reserve(c, 14, cells::size(b), 0, m) {
+reserve-requires : tie.Need-reserve-requires
+reserve-requires c κs = search needs
+
+-- Reserved::Short(k) => Ended::Stop(24, k),
+enum-known-k : tie.Need-enum-known-k
+enum-known-k c = search needs
+
+-- Reserved::At(p, k) => Ended::Done(sequences::put_before(c, p, a, b), k),
+enum-known-p : tie.Need-enum-known-p
+enum-known-p c = search needs
+
+-- Reserved::At(p, k) => Ended::Done(sequences::put_before(c, p, a, b), k),
+put-before-requires : tie.Need-put-before-requires
+put-before-requires c κs = search needs
+
+-- pub fn apndl(c: &mut [u32], a: Val, b: Val, m: Meter) -> Ended
+same-length : tie.Need-same-length
+same-length c = search needs
+
+-- pub fn apndl(c: &mut [u32], a: Val, b: Val, m: Meter) -> Ended
+returns-2 : tie.Need-returns-2
+returns-2 c = search (apndl-short, apndl-is)
+
+-- pub fn apndl(c: &mut [u32], a: Val, b: Val, m: Meter) -> Ended
+same-length-2 : tie.Need-same-length-2
+same-length-2 c = search needs
+
+-- pub fn apndl(c: &mut [u32], a: Val, b: Val, m: Meter) -> Ended
+returns-3 : tie.Need-returns-3
+returns-3 c = search (apndl-short, apndl-is)
+
+pub apndl-spec : {M : Type 1} → statement M
+apndl-spec =
+    tie.close
+    (tie.spec
+    returns
+    size-requires
+    reserve-requires
+    enum-known-k
+    enum-known-p
+    put-before-requires
+    same-length
+    returns-2
+    same-length-2
+    returns-3)

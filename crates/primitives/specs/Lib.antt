@@ -1,0 +1,4 @@
+pub mod Ends
+pub mod Shapes
+pub mod Asking
+pub mod Leaves

@@ -1,0 +1,4 @@
+pub mod Counts
+pub mod Parts
+pub mod Building
+pub mod Transposing
