@@ -3,8 +3,10 @@ mod integers;
 mod reader;
 mod writer;
 
+pub use integers::digits;
 pub use reader::read_object;
 pub use reader::read_whole_object;
+pub use writer::put_text;
 pub use writer::walk_object;
 pub use writer::write_object;
 

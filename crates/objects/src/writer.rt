@@ -22,7 +22,7 @@ fn put_byte(out: &mut [u8], at: usize, b: u8)
 }
 
 // Writes the bytes of `text` from `from` up to `to` at the place `at`, where the output has room for all of them.
-fn put_text(out: &mut [u8], at: usize, text: &[u8], from: usize, to: usize)
+pub fn put_text(out: &mut [u8], at: usize, text: &[u8], from: usize, to: usize)
     requires { ⌜ (from ≤ to) × (to ≤ length (now text)) ⌝ }
     ensures { λ _. ⌜ PutText (now (out .entry)) at (slice from to (now (text .entry))) (now (out .exit)) ⌝ }
 {

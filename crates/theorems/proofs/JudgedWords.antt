@@ -36,11 +36,11 @@ value-from v (b ∷ ds) h =
     let n = mul-le-mul-right (10 ^ length ds) m in
     rw (pow-suc 10 (length ds)) (omega arith)
 
-value-bound : (ds : List ℕ) → all isDigit ds ≡ true → valueOf ds < 10 ^ length ds
+pub value-bound : (ds : List ℕ) → all isDigit ds ≡ true → valueOf ds < 10 ^ length ds
 value-bound ds h = let i = value-from 0 ds h in omega arith
 
 -- a number below 10 ^ n has at most n digits
-digits-few : (k v n : ℕ) → v < 10 ^ suc n → length (digits k v) ≤ suc n
+pub digits-few : (k v n : ℕ) → v < 10 ^ suc n → length (digits k v) ≤ suc n
 unfolding digits
 digits-few zero v n h = omega arith
 digits-few (suc k) v n h = go (λ m g. digits-few k (v / 10) m g) n h (leb v 9) refl

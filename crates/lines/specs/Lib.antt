@@ -1,0 +1,4 @@
+-- The definitions that the contracts of lines cite.
+pub mod Budgets
+pub mod Cutting
+pub mod Printing

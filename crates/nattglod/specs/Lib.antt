@@ -1,0 +1,2 @@
+-- The definitions that the contracts of nattglod cite.
+pub mod Calls
