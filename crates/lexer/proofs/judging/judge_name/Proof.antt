@@ -1,6 +1,8 @@
 -- `judge_name` judges what stands where a defined name may stand, a law for each way out. Assumes nothing.
 use borrow.Author.Needs.{needs}
-use Rattle.lexer.proofs.Judged.{name-none, name-other, name-refused, name-primitive, name-good}
+use Rattle.lexer.specs.declared.Class.the-variants.{Name}
+use native.Mathlib.Omega.{arith}
+use Rattle.lexer.proofs.Judged.{name-none, name-other, name-refused, name-primitive, name-good, word-few}
 use Rattle.lexer.proofs.judging.judge_name.Statement.{statement}
 use Rattle.lexer.proofs.judging.judge_name.Tie as tie
 
@@ -50,7 +52,10 @@ add-pack c = search needs
 
 -- NameJudged::Is(packing::pack(s, p, p + n))
 pack-requires : tie.Need-pack-requires
-pack-requires c κs = ?
+pack-requires c κs =
+    let j = c .before .before .before in
+    let a = j .before .before .before .before .before .before in
+    (omega arith, a .pre, word-few Name (a .args .s .now) _ _ (a .pre) (j .judge-word .ensures) (c .before .before .if3 .left))
 
 -- pub fn judge_name(s: &[u8], p: usize, n: usize) -> NameJudged
 returns-5 : tie.Need-returns-5

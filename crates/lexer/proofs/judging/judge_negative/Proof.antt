@@ -34,7 +34,10 @@ returns-4 c = search negative-large
 
 -- AtomJudged::Is(Val { tag: 1, word: v - 1 })
 sub-t10 : tie.Need-sub-t10
-sub-t10 c = search negative-some
+sub-t10 c =
+    let d = c .before .before .before .before in
+    let a = d .before .before .before .before in
+    negative-some _ _ _ (a .pre .0) (a .pre .1) (d .before .before .if1 .left) (d .before .span-end .ensures) (d .if2 .left) (c .before .before .if3 .left) (c .before .value .ensures) (c .if4 .left)
 
 -- fn judge_negative(s: &[u8], from: usize, to: usize) -> AtomJudged
 returns-5 : tie.Need-returns-5

@@ -1,6 +1,7 @@
 -- `judge_plain` judges a word where a part may stand. Assumes nothing.
 use borrow.Author.Needs.{needs}
-use Rattle.lexer.proofs.Judged.{plain-refused, plain-primitive, plain-name}
+use Rattle.lexer.specs.declared.Class.the-variants.{Name}
+use Rattle.lexer.proofs.Judged.{plain-refused, plain-primitive, plain-name, word-few}
 use Rattle.lexer.proofs.judging.judge_plain.Statement.{statement}
 use Rattle.lexer.proofs.judging.judge_plain.Tie as tie
 
@@ -22,7 +23,9 @@ returns-2 c = search plain-primitive
 
 -- PartJudged::Name(packing::pack(s, from, to))
 pack-requires : tie.Need-pack-requires
-pack-requires c κs = ?
+pack-requires c κs =
+    let a = c .before .before .before .before .before in
+    (a .pre .0, a .pre .1, word-few Name (a .args .s .now) _ _ (a .pre .1) (c .before .before .before .judge-word .ensures) (c .before .before .if1 .left))
 
 -- fn judge_plain(s: &[u8], from: usize, to: usize) -> PartJudged
 returns-3 : tie.Need-returns-3
