@@ -1,0 +1,93 @@
+use native.Mathlib.Omega.{arith}
+use borrow.Author.Needs.{needs}
+use Rattle.programs.proofs.plain.read_bound.Statement.{statement}
+use Rattle.programs.proofs.plain.read_bound.Tie as tie
+use Rattle.programs.proofs.plain.read_bound.Reads as reads
+use Rattle.programs.proofs.plain.read_bound.Lts as lts
+use Rattle.objects.proofs.read_object.Reads as read-object-reads
+use Rattle.programs.proofs.marks.read_mark.Reads as read-mark-reads
+
+-- let a = match marks::read_mark(s, at, b',') {
+read-mark-requires : tie.Need-read-mark-requires
+read-mark-requires c κs = search needs
+
+-- MarkRead::No(number, place) => return ObjectRead::No(number, place),
+enum-known-number : tie.Need-enum-known-number
+enum-known-number c = search needs
+
+-- MarkRead::No(number, place) => return ObjectRead::No(number, place),
+returns : tie.Need-returns
+returns c = ?
+
+-- MarkRead::Got(a) => a,
+enum-known-a : tie.Need-enum-known-a
+enum-known-a c = search needs
+
+-- let x = match objects::read_object(s, a, room, u, c) {
+read-object-requires : tie.Need-read-object-requires
+read-object-requires c κs = ?
+
+-- ObjectRead::No(number, place) => return ObjectRead::No(number, place),
+enum-known-number-2 : tie.Need-enum-known-number-2
+enum-known-number-2 c = search needs
+
+-- ObjectRead::No(number, place) => return ObjectRead::No(number, place),
+same-length : tie.Need-same-length
+same-length c = search needs
+
+-- ObjectRead::No(number, place) => return ObjectRead::No(number, place),
+returns-2 : tie.Need-returns-2
+returns-2 c = ?
+
+-- ObjectRead::Got(x) => x,
+enum-known-x : tie.Need-enum-known-x
+enum-known-x c = search needs
+
+-- let next = match marks::read_mark(s, e, b'}') {
+read-mark-requires-2 : tie.Need-read-mark-requires-2
+read-mark-requires-2 c κs = ?
+
+-- MarkRead::No(number, place) => return ObjectRead::No(number, place),
+enum-known-number-3 : tie.Need-enum-known-number-3
+enum-known-number-3 c = search needs
+
+-- MarkRead::No(number, place) => return ObjectRead::No(number, place),
+same-length-2 : tie.Need-same-length-2
+same-length-2 c = search needs
+
+-- MarkRead::No(number, place) => return ObjectRead::No(number, place),
+returns-3 : tie.Need-returns-3
+returns-3 c = ?
+
+-- MarkRead::Got(next) => next,
+enum-known-next : tie.Need-enum-known-next
+enum-known-next c = search needs
+
+-- pub fn read_bound(s: &[u8], at: usize, room: u32, u: &mut [u32], c: usize) -> ObjectRead
+same-length-3 : tie.Need-same-length-3
+same-length-3 c = search needs
+
+-- pub fn read_bound(s: &[u8], at: usize, room: u32, u: &mut [u32], c: usize) -> ObjectRead
+returns-4 : tie.Need-returns-4
+returns-4 c = ?
+
+pub read-bound-spec : {M : Type 1} → statement M
+read-bound-spec =
+    tie.close
+    (tie.spec
+    read-mark-requires
+    enum-known-number
+    returns
+    enum-known-a
+    read-object-requires
+    enum-known-number-2
+    same-length
+    returns-2
+    enum-known-x
+    read-mark-requires-2
+    enum-known-number-3
+    same-length-2
+    returns-3
+    enum-known-next
+    same-length-3
+    returns-4)

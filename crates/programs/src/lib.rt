@@ -1,0 +1,31 @@
+// Programs in texts: read into the form table and the cells, with a table of the definitions.
+mod forms;
+mod marks;
+mod plain;
+
+pub use forms::read_form;
+
+// Where reading goes on, and how many forms and cells there are then.
+pub struct Upto {
+    pub next: usize,
+    pub forms: usize,
+    pub cells: usize,
+}
+
+// The place behind a mark; or a refusal's number and place.
+pub enum MarkRead {
+    Got(usize),
+    No(u32, usize),
+}
+
+// A form was read; or a refusal's number and place.
+pub enum FormRead {
+    Got(Upto),
+    No(u32, usize),
+}
+
+// Forms were read one behind the other, so many of them; or a refusal's number and place.
+pub enum FormsRead {
+    Got(Upto, u32),
+    No(u32, usize),
+}
