@@ -11,7 +11,9 @@ use borrow.Author.Tests.{le-leb, lt-leb, ne-eqb, leb-true}
 use lib.Dec.{leb, eqb}
 use lib.ListN.{length, getD, take, drop, set, take-append-drop, length-set}
 use lib.Seq.{slice, slice-empty, length-slice, length-take-le, take-suc-set, drop-set-lt, drop-drop}
-use Rattle.language.specs.Judging.{all}
+use Rattle.language.specs.Tokens.{isDigit, isLower, isUpper}
+use Rattle.language.specs.Judging.{all, isNameByte}
+use Rattle.language.specs.Accepted.{IsSymbol}
 use Rattle.lexer.specs.declared.Case.{Case}
 use Rattle.lexer.specs.declared.Case.the-variants.{Upper, Lower}
 use Rattle.lexer.specs.Packing.{letterOf, packed, before, byteOf, inCase, unpackedFrom, unpacked, Unpacked}
@@ -74,6 +76,7 @@ letter-back case b h = ⊎-elim (λ k. letters (k .0) (k .1)) (λ k. digits (k .
   where
     letters : before case + 1 ≤ b → b ≤ before case + 26 → Letter case b
     letters h k = let e = letter-letter case b h k in record { back = rw (e, le-leb (b - before case) 26 (omega arith)) (omega arith); some = rw e (omega arith); few = rw e (omega arith) }
+
     digits : 48 ≤ b → b ≤ 57 → Letter case b
     digits h k = let e = letter-digit b h k in record { back = rw (e, lt-leb (b - 21) 26 (omega arith)) (omega arith); some = rw e (omega arith); few = rw e (omega arith) }
 
@@ -108,6 +111,17 @@ module _ (case : Case) where
   -- so two words with the same number are the same
   pub packed-injective : (w v : List ℕ) → all (inCase case) w ≡ true → length w ≤ 12 → all (inCase case) v ≡ true → length v ≤ 12 → packed w ≡ packed v → w ≡ v
   packed-injective w v hw nw hv nv e = sym (unpacked-packed w hw nw) ∙ ap (unpacked case) e ∙ unpacked-packed v hv nv
+
+or-left : (x y : Bool) → x ≡ true → x || y ≡ true
+or-left x y h = rw h
+
+-- so symbols come back in upper case, and names in lower case
+pub symbol-back : (w : List ℕ) → IsSymbol w → unpacked Upper (packed w) ≡ w
+symbol-back [] h = absurd h
+symbol-back (b ∷ w) h = unpacked-packed Upper (b ∷ w) (rw (or-left (isUpper b) (isDigit b) (h .0)) (h .1)) (h .2)
+
+pub name-back : (b : ℕ) (w : List ℕ) → isLower b ≡ true → all isNameByte w ≡ true → length (b ∷ w) ≤ 12 → unpacked Lower (packed (b ∷ w)) ≡ b ∷ w
+name-back b w l h n = unpacked-packed Lower (b ∷ w) (rw (or-left (isLower b) (isDigit b) l) h) n
 
 -- the loop of `unpack`
 module _ (case : Case) (v : ℕ) (old new : List ℕ) (left i : ℕ) where

@@ -7,16 +7,14 @@ use Prim.Native.Nat.{ℕ, zero, suc, _+_, _-_, _*_, _/_, _%_, _≤_, _<_}
 use native.Mathlib.Numerals.{add-one}
 use native.Mathlib.Omega.{arith}
 use borrow.Author.Tests.{eq-eqb, ne-eqb, leb-true}
-use mir.Syntax.{w32, w64}
-use mir.Val.{Fits}
 use lib.Dec.{T, leb, ltb, eqb, eqb→eq, leb→le, ltb→lt}
 use lib.ListN.{length, getD, drop, take, replicate, drop-of-length-le, List·getD-map, List·getD-append, List·getD-eq-default}
 use lib.Seq.{drop-cons, drop-length, slice, length-slice, drop-nil}
-use Rattle.language.specs.Bytes.{bytes, sameBytes}
-use Rattle.language.specs.Words.{Op, CellRule, Entry, entry, ops}
+use Rattle.language.specs.Bytes.{sameBytes}
+use Rattle.language.specs.Words.{Op, Entry, entry, ops}
 use Rattle.language.specs.Words as W
 use Rattle.language.specs.Judging.{findOp}
-use Rattle.lexer.specs.Vocabulary.{opCode, codeOf, ruleCode, spelledAt, ruleAt}
+use Rattle.lexer.specs.Vocabulary.{opCode, codeOf, ruleCode, rowOf, rowByte, spelledAt, ruleAt}
 use Rattle.lexer.proofs.Computed.{at, every}
 use Rattle.lexer.proofs.Spans.{slice-first, slice-none}
 
@@ -61,22 +59,16 @@ pub code-at : (k : ℕ) → k < 23 → opCode (getD ops k W.id) ≡ k
 unfolding rightCode opCode
 code-at k h = eqb→eq (opCode (getD ops k W.id)) k (at W.id rightCode ops tt k h)
 
--- The table's row of a word: its rule, its length, and its letters up to the seventh place.
-row : Op → List ℕ
-row o = (48 + ruleCode (entry o .rule)) ∷ (48 + length (entry o .spelled)) ∷ (entry o .spelled ++ replicate 7 32)
+-- Whether each byte of a table is its word's. A table for which that computes to true has every row right.
+unfoldable pub right : ℕ → ℕ → Bool
+right k x = eqb x (getD (rowOf (getD ops (k / 9) W.id)) (k % 9) 0)
 
-abbrev pub table : List ℕ
-table = bytes "02id     02tl     04atom   04null   02eq     02lt     06length 03add    03sub    03mul    03div    03and    02or     03not    15apndl  23tlr    37reverse34rotl   34rotr   45apndr  55distl  55distr  65trans  "
-
-right : ℕ → ℕ → Bool
-right k x = eqb x (getD (row (getD ops (k / 9) W.id)) (k % 9) 0)
-
-byte-at : (k j : ℕ) → k < 23 → j < 9 → getD table (k * 9 + j) 0 ≡ getD (row (getD ops k W.id)) j 0
-unfolding right row
-byte-at k j h g =
+pub row-right : (t : List ℕ) → T (every right 0 t) → (k j : ℕ) → k ≤ 22 → j < 9 → 207 ≤ length t → getD t (k * 9 + j) 0 ≡ rowByte k j
+unfolding right rowByte
+row-right t ok k j h g n =
     let d : (k * 9 + j) / 9 ≡ k = omega arith in
     let m : (k * 9 + j) % 9 ≡ j = omega arith in
-    let e = eqb→eq (getD table (k * 9 + j) 0) (getD (row (getD ops ((k * 9 + j) / 9) W.id)) ((k * 9 + j) % 9) 0) (at 0 right table tt (k * 9 + j) (omega arith)) in
+    let e = eqb→eq (getD t (k * 9 + j) 0) (getD (rowOf (getD ops ((k * 9 + j) / 9) W.id)) ((k * 9 + j) % 9) 0) (at 0 right t ok (k * 9 + j) (omega arith)) in
     rw (d, m) at e
 
 -- no word has more than seven letters
@@ -124,62 +116,40 @@ pub rule-past : (k : ℕ) → 22 < k → 0 ≡ ruleAt k
 unfolding ruleAt
 rule-past k h = sym (List·getD-eq-default (map (λ (o : Op). ruleCode (entry o .rule)) ops) 0 {n = k} h)
 
--- the bytes of a row
-pub rule-byte : (k : ℕ) → k ≤ 22 → getD table (k * 9) 0 ≡ 48 + ruleAt k
-unfolding row
-rule-byte k h =
-    let z : k * 9 + 0 ≡ k * 9 = omega arith in
-    (rw z at (byte-at k 0 (omega arith) (omega arith))) ∙ ap (λ (n : ℕ). 48 + n) (sym (rule-at k (omega arith)))
-
-few-rules : (r : CellRule) → ruleCode r ≤ 6
-few-rules W.no-cell = omega arith
-few-rules W.one-cell = omega arith
-few-rules W.n-less-1 = omega arith
-few-rules W.n-cells = omega arith
-few-rules W.n-and-1 = omega arith
-few-rules W.three-n = omega arith
-few-rules W.m-and-m-times-n = omega arith
-
-module _ (k : ℕ) (h : k ≤ 22) where
-  pub rule-low : 48 ≤ getD table (k * 9) 0
-  rule-low = rw (rule-byte k h) (omega arith)
-
-  pub rule-fits : Fits w32 (getD table (k * 9) 0 - 48)
-  rule-fits =
-      let f : ruleAt k ≤ 6 = rw (rule-at k (omega arith)) (few-rules (entry (getD ops k W.id) .rule)) in
-      record { fits = rw (rule-byte k h) (omega arith) }
-
-  pub rule-is : getD table (k * 9) 0 - 48 ≡ ruleAt k
-  rule-is = rw (rule-byte k h) (omega arith)
-
-pub length-byte : (k : ℕ) → k ≤ 22 → getD table (k * 9 + 1) 0 ≡ 48 + length (spelledAt k)
-unfolding row
-length-byte k h = byte-at k 1 (omega arith) (omega arith) ∙ ap (λ (w : List ℕ). 48 + length w) (sym (spelled-at k (omega arith)))
-
 pub few : (k : ℕ) → k ≤ 22 → length (spelledAt k) ≤ 7
 few k h = rw (spelled-at k (omega arith)) (few-letters k (omega arith))
 
+-- the bytes of a row
 module _ (k : ℕ) (h : k ≤ 22) where
-  pub length-low : 48 ≤ getD table (k * 9 + 1) 0
-  length-low = rw (length-byte k h) (omega arith)
+  rule-byte : rowByte k 0 ≡ 48 + ruleAt k
+  unfolding rowByte rowOf
+  rule-byte = ap (λ (n : ℕ). 48 + n) (sym (rule-at k (omega arith)))
 
-  pub length-fits : Fits w64 (getD table (k * 9 + 1) 0 - 48)
-  length-fits = let f = few k h in record { fits = rw (length-byte k h) (omega arith) }
+  length-byte : rowByte k 1 ≡ 48 + length (spelledAt k)
+  unfolding rowByte rowOf
+  length-byte = ap (λ (w : List ℕ). 48 + length w) (sym (spelled-at k (omega arith)))
 
-  pub length-is : getD table (k * 9 + 1) 0 - 48 ≡ length (spelledAt k)
-  length-is = rw (length-byte k h) (omega arith)
+  pub rule-low : {b : ℕ} → b ≡ rowByte k 0 → 48 ≤ b
+  rule-low e = rw (e, rule-byte) (omega arith)
 
-  pub length-few : getD table (k * 9 + 1) 0 - 48 ≤ 7
-  length-few = let f = few k h in rw (length-byte k h) (omega arith)
+  pub rule-is : {b : ℕ} → b ≡ rowByte k 0 → b - 48 ≡ ruleAt k
+  rule-is e = rw (e, rule-byte) (omega arith)
 
-pub letter-byte : (k i : ℕ) {n : ℕ} → k ≤ 22 → n ≡ length (spelledAt k) → i < n → getD table (k * 9 + 2 + i) 0 ≡ getD (spelledAt k) i 0
-unfolding row
-letter-byte k i h e l =
-    let g : i < length (spelledAt k) = omega arith in
-    let z : k * 9 + suc (suc i) ≡ k * 9 + 2 + i = omega arith in
-    let n = few k h in
-    let m = rw (spelled-at k (omega arith)) at g in
-    (rw z at (byte-at k (suc (suc i)) (omega arith) (omega arith))) ∙ List·getD-append (entry (getD ops k W.id) .spelled) (replicate 7 32) 0 i m ∙ ap (λ (w : List ℕ). getD w i 0) (sym (spelled-at k (omega arith)))
+  pub length-low : {b : ℕ} → b ≡ rowByte k 1 → 48 ≤ b
+  length-low e = rw (e, length-byte) (omega arith)
+
+  pub length-is : {b : ℕ} → b ≡ rowByte k 1 → b - 48 ≡ length (spelledAt k)
+  length-is e = rw (e, length-byte) (omega arith)
+
+  pub length-few : {b : ℕ} → b ≡ rowByte k 1 → b - 48 ≤ 7
+  length-few e = let f = few k h in rw (e, length-byte) (omega arith)
+
+  letter-at : (i : ℕ) → i < length (spelledAt k) → rowByte k (suc (suc i)) ≡ getD (spelledAt k) i 0
+  unfolding rowByte rowOf
+  letter-at i g = List·getD-append (entry (getD ops k W.id) .spelled) (replicate 7 32) 0 i (rw (spelled-at k (omega arith)) at g) ∙ ap (λ (w : List ℕ). getD w i 0) (sym (spelled-at k (omega arith)))
+
+  pub letter-is : (i : ℕ) {n b : ℕ} → n ≡ length (spelledAt k) → n ≤ 7 → i < n → b ≡ rowByte k (i + 2) → b ≡ getD (spelledAt k) i 0
+  letter-is i e m l r = let z : i + 2 ≡ suc (suc i) = omega arith in r ∙ rw z (letter-at i (omega arith))
 
 -- comparing a word, byte by byte
 pub same-not : (v w : List ℕ) → (length v ≡ length w → ⊥) → sameBytes v w ≡ false

@@ -1,9 +1,10 @@
 -- The primitive words by their place in the table.
-use Prim.Native.Nat.{ℕ, zero, suc}
-use mathlib.Core.List.{List, [], _∷_, map}
+use Prim.Native.Nat.{ℕ, zero, suc, _+_}
+use mathlib.Core.List.{List, [], _∷_, _++_, map}
 use mathlib.Core.Option.{Option, some, none}
-use lib.ListN.{getD}
+use lib.ListN.{length, getD, replicate}
 use Rattle.language.specs.Words.{Op, Op-discrete, CellRule, no-cell, one-cell, n-less-1, n-cells, n-and-1, three-n, m-and-m-times-n, Entry, entry, ops}
+use Rattle.language.specs.Words as W
 
 -- how many words stand before this one
 abbrev pub placeIn : List Op → Op → ℕ
@@ -33,3 +34,10 @@ spelledAt code = getD (map (λ (o : Op). entry o .spelled) ops) code []
 
 unfoldable pub ruleAt : ℕ → ℕ
 ruleAt code = getD (map (λ (o : Op). ruleCode (entry o .rule)) ops) code 0
+
+-- The row of a word in the code's table: the rule's code and the length as digits, then the letters, with spaces behind them.
+unfoldable pub rowOf : Op → List ℕ
+rowOf o = (48 + ruleCode (entry o .rule)) ∷ (48 + length (entry o .spelled)) ∷ (entry o .spelled ++ replicate 7 32)
+
+unfoldable pub rowByte : ℕ → ℕ → ℕ
+rowByte code j = getD (rowOf (getD ops code W.id)) j 0

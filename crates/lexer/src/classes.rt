@@ -3,7 +3,6 @@ ghost use mathlib.Core.Path.{_≡_};
 ghost use Rattle.language.specs.Tokens.{isBlank, isDigit, isLower, isUpper, isLetter, isWordByte, byteAt};
 ghost use Rattle.language.specs.Judging.{isSymbolByte, isNameByte};
 ghost use Rattle.lexer.specs.Classes.{testOf};
-
 use super::Class;
 
 // The byte at p, 0 past the end.

@@ -8,16 +8,15 @@ ghost use Rattle.language.specs.Reading.{wordAt};
 ghost use Rattle.language.specs.Judging.{judgeWord, leadingZero, judgeInteger, judgeNegative, judgeAtom, isSelector, judgeSelector, judgePart, judgeName, refusalOf};
 ghost use Rattle.lexer.specs.Classes.{testOf};
 ghost use Rattle.lexer.specs.Judgements.{WordJudged, judgeSymbol, judgePlain, atomJudged, partJudged, nameJudged};
-
+use super::AtomJudged;
+use super::Class;
+use super::NameJudged;
+use super::PartJudged;
 use super::classes;
 use super::numbers;
 use super::packing;
 use super::reader;
 use super::vocabulary;
-use super::AtomJudged;
-use super::Class;
-use super::NameJudged;
-use super::PartJudged;
 use language::Val;
 
 // The refusal of a word by its length and its bytes' class: 9, 6, or 0 if it stands.
@@ -81,7 +80,10 @@ fn judge_negative(s: &[u8], from: usize, to: usize) -> AtomJudged
     if 2147483648 < v {
         return AtomJudged::Not(8);
     }
-    AtomJudged::Is(Val { tag: 1, word: v - 1 })
+    AtomJudged::Is(Val {
+        tag: 1,
+        word: v - 1,
+    })
 }
 
 // A symbol.

@@ -5,7 +5,6 @@ ghost use Prim.Native.Nat.{_+_, _≤_, _<_};
 ghost use lib.ListN.{length, drop};
 ghost use lib.Seq.{slice};
 ghost use Rattle.lexer.specs.Packing.{letterOf, byteOf, packed, unpacked, Unpacked};
-
 use super::Case;
 
 // A byte as a digit of a packed word.

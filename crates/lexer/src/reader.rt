@@ -3,9 +3,8 @@ ghost use mathlib.Core.Path.{_≡_};
 ghost use Prim.Native.Nat.{_≤_, _+_};
 ghost use lib.ListN.{length};
 ghost use Rattle.lexer.specs.Readings.{Spanned, Skipped, Sized, NextWord};
-
-use super::classes;
 use super::Class;
+use super::classes;
 use language::Token;
 
 // Past the bytes of a class, from `from` up to `to`.
@@ -64,8 +63,14 @@ pub fn next_word(s: &[u8], at: usize) -> Token
 {
     let p = skip_blanks(s, at);
     if s.len() <= p {
-        return Token { place: s.len(), length: 0 };
+        return Token {
+            place: s.len(),
+            length: 0,
+        };
     }
     let n = size_at(s, p);
-    Token { place: p, length: n }
+    Token {
+        place: p,
+        length: n,
+    }
 }

@@ -1,15 +1,24 @@
 // The table of primitive words with their cell rules: searched by the reader, written from, consulted by the evaluator.
 ghost use mathlib.Core.Path.{_≡_};
-ghost use Prim.Native.Nat.{_≤_};
+ghost use Prim.Native.Nat.{_≤_, _<_};
 ghost use lib.ListN.{length, getD};
 ghost use lib.Seq.{slice};
 ghost use Rattle.language.specs.Bytes.{sameBytes};
 ghost use Rattle.language.specs.Words.{ops};
 ghost use Rattle.language.specs.Judging.{findOp};
-ghost use Rattle.lexer.specs.Vocabulary.{spelledAt, ruleAt, codeOf};
+ghost use Rattle.lexer.specs.Vocabulary.{rowByte, spelledAt, ruleAt, codeOf};
 
 // For each word, in the order of the definitions: its cell rule, its length, and its letters up to the seventh place.
-const TABLE: [u8; 207] = *b"02id     02tl     04atom   04null   02eq     02lt     06length 03add    03sub    03mul    03div    03and    02or     03not    15apndl  23tlr    37reverse34rotl   34rotr   45apndr  55distl  55distr  65trans  ";
+const TABLE: [u8; 207] =
+    *b"02id     02tl     04atom   04null   02eq     02lt     06length 03add    03sub    03mul    03div    03and    02or     03not    15apndl  23tlr    37reverse34rotl   34rotr   45apndr  55distl  55distr  65trans  ";
+
+// The byte j of a word's row.
+fn row_byte(code: u32, j: usize) -> u8
+    requires { ⌜ (code ≤ 22) × (j < 9) ⌝ }
+    ensures { λ r. ⌜ r ≡ rowByte code j ⌝ }
+{
+    TABLE[(code as usize) * 9 + j]
+}
 
 // The cell rule of the word with this code, 0 past the table.
 pub fn cell_rule(code: u32) -> u32
@@ -18,8 +27,7 @@ pub fn cell_rule(code: u32) -> u32
     if 22 < code {
         return 0;
     }
-    let row = (code as usize) * 9;
-    (TABLE[row] - b'0') as u32
+    (row_byte(code, 0) - b'0') as u32
 }
 
 // The length of the word with this code, 0 past the table.
@@ -29,8 +37,7 @@ pub fn word_length(code: u32) -> usize
     if 22 < code {
         return 0;
     }
-    let row = (code as usize) * 9;
-    (TABLE[row + 1] - b'0') as usize
+    (row_byte(code, 1) - b'0') as usize
 }
 
 // The byte i of the word with this code, 0 past its end.
@@ -43,8 +50,7 @@ pub fn word_byte(code: u32, i: usize) -> u8
     if word_length(code) <= i {
         return 0;
     }
-    let row = (code as usize) * 9;
-    TABLE[row + 2 + i]
+    row_byte(code, i + 2)
 }
 
 // Whether the bytes from `from` up to `to` are the word with this code.

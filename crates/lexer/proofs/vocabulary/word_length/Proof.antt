@@ -1,6 +1,6 @@
--- `word_length` gives the word's length, from the table. Assumes nothing.
+-- `word_length` gives the word's length, from its row. Assumes nothing.
 use borrow.Author.Needs.{needs}
-use Rattle.lexer.proofs.Words.{length-past, length-low, length-fits, length-is, length-few}
+use Rattle.lexer.proofs.Words.{length-past, length-low, length-is, length-few}
 use Rattle.lexer.proofs.vocabulary.word_length.Statement.{statement}
 use Rattle.lexer.proofs.vocabulary.word_length.Tie as tie
 
@@ -8,31 +8,21 @@ use Rattle.lexer.proofs.vocabulary.word_length.Tie as tie
 returns : tie.Need-returns
 returns c = (search length-past, search needs)
 
--- let row = (code as usize) * 9;
-mul-row : tie.Need-mul-row
-mul-row c = search needs
+-- (row_byte(code, 1) - b'0') as usize
+row-byte-requires : tie.Need-row-byte-requires
+row-byte-requires c κs = search needs
 
--- (TABLE[row + 1] - b'0') as usize
-add-result : tie.Need-add-result
-add-result c = search needs
-
--- (TABLE[row + 1] - b'0') as usize
-array-read-result : tie.Need-array-read-result
-array-read-result c = search needs
-
--- (TABLE[row + 1] - b'0') as usize
+-- (row_byte(code, 1) - b'0') as usize
 sub-result : tie.Need-sub-result
-sub-result c = search length-low
+sub-result c = length-low _ (c .before .if1 .left) (c .row-byte .ensures)
 
--- (TABLE[row + 1] - b'0') as usize
+-- (row_byte(code, 1) - b'0') as usize
 cast-result : tie.Need-cast-result
-cast-result c = search length-fits
+cast-result c = search needs
 
 -- pub fn word_length(code: u32) -> usize
 returns-2 : tie.Need-returns-2
-returns-2 c = (search length-is, search length-few)
+returns-2 c = (search length-is, length-few _ (c .before .if1 .left) (c .row-byte .ensures))
 
 pub word-length-spec : {M : Type 1} → statement M
-word-length-spec =
-    tie.close
-    (tie.spec returns mul-row add-result array-read-result sub-result cast-result returns-2)
+word-length-spec = tie.close (tie.spec returns row-byte-requires sub-result cast-result returns-2)

@@ -1,0 +1,3 @@
+-- The definitions that the contracts of objects cite.
+pub mod Readings
+pub mod Writings
