@@ -21,18 +21,20 @@ use Rattle.cells.specs.Encoding.{valOf, cellsFrom}
 use Rattle.cells.proofs.Encoded.{length-cells}
 use Rattle.formtable.specs.Encoding.{encodeForm, encodeForms, constantsFrom, constantsFromAll}
 use Rattle.formtable.proofs.Lengths.{length-form, length-forms, length-constants, length-all-constants}
-use Rattle.objects.specs.declared.ObjectAt.{ObjectAt}
+use Rattle.language.specs.declared.Val.{Val}
 use Rattle.objects.specs.declared.ObjectRead.{ObjectRead}
 use Rattle.objects.specs.declared.ObjectRead.the-variants as O
 use Rattle.programs.specs.declared.Upto.{Upto}
 use Rattle.programs.specs.declared.MarkRead.{MarkRead}
 use Rattle.programs.specs.declared.MarkRead.the-variants as M
+use Rattle.programs.specs.declared.DotRead.{DotRead}
+use Rattle.programs.specs.declared.DotRead.the-variants as D
 use Rattle.programs.specs.declared.FormRead.{FormRead}
 use Rattle.programs.specs.declared.FormRead.the-variants as F
 use Rattle.programs.specs.declared.FormsRead.{FormsRead}
 use Rattle.programs.specs.declared.FormsRead.the-variants as S
 use Rattle.programs.specs.Readers.{objectAt, partAt, formAt, partsAt, formsAt}
-use Rattle.programs.specs.Readings.{Ready, Marked, mark-read, mark-refused, Run, Laid, FormLaid, FormsLaid, ObjectMet, object-read, object-refused, FormMet, form-read, form-refused, FormsMet, forms-read, forms-refused}
+use Rattle.programs.specs.Readings.{Ready, Passed, Dotted, dot-read, no-dot, Marked, mark-read, mark-refused, Run, Laid, FormLaid, FormsLaid, ObjectMet, object-read, object-refused, FormMet, form-read, form-refused, FormsMet, forms-read, forms-refused}
 use Rattle.programs.proofs.Small.{Small, AllSmall, SmallObject, object-small, form-small, parts-small, forms-small, part-small}
 
 -- ---- what was got, and what was refused
@@ -47,11 +49,11 @@ pub record GotForms (n c : ℕ) (t u : List ℕ) (x : Upto) (k : ℕ) (t′ u′
   pub counted : k ≡ count forms
   pub laid : FormsLaid forms n c t u x t′ u′
 
-pub record GotObject (c : ℕ) (u : List ℕ) (y : ObjectAt) (u′ : List ℕ) (g : Got Obj) : Type 0 where
+pub record GotObject (c : ℕ) (u : List ℕ) (v : Val) (e d : ℕ) (u′ : List ℕ) (g : Got Obj) : Type 0 where
   pub object : Obj
-  pub is : g ≡ got object (y .next)
-  pub value : y .value ≡ valOf c object
-  pub laid : Run (cellsFrom c object) c u (y .cells) u′
+  pub is : g ≡ got object e
+  pub value : v ≡ valOf c object
+  pub laid : Run (cellsFrom c object) c u d u′
 
 module _ {n c : ℕ} {t u t′ u′ : List ℕ} where
   pub form-got : {r : FormRead} {x : Upto} {g : Got Form} → FormMet n c t u r t′ u′ g → r ≡ F.Got x → GotForm n c t u x t′ u′ g
@@ -76,14 +78,15 @@ module _ {n c : ℕ} {t u t′ u′ : List ℕ} where
   forms-no (forms-refused h) q = cc
 
 module _ {c : ℕ} {u u′ : List ℕ} where
-  pub object-got : {r : ObjectRead} {x : ObjectAt} {g : Got Obj} → ObjectMet c u r u′ g → r ≡ O.Got x → GotObject c u x u′ g
-  object-got {r} {x} (object-read {x = o} {y = y} h i v l) q =
-      let z : y ≡ x = cc in
-      record { object = o; is = ap (λ (v : ℕ). got o v) (sym i ∙ ap (λ (w : ObjectAt). w .next) z); value = ap (λ (w : ObjectAt). w .value) (sym z) ∙ v; laid = rw z at l }
+  pub object-got : {r : ObjectRead} {v : Val} {e d : ℕ} {g : Got Obj} → ObjectMet c u r u′ g → r ≡ O.Got v e d → GotObject c u v e d u′ g
+  object-got {r} {v} {e} {d} (object-read {x = o} {e = e₁} {d = d₁} h l) q =
+      let z : e₁ ≡ e = cc in
+      let y : d₁ ≡ d = cc in
+      record { object = o; is = ap (λ (w : ℕ). got o w) z; value = cc; laid = rw y at l }
   object-got (object-refused h) q = absurd (let z : _≡_ {A = ℕ} 0 1 = cc in omega arith)
 
   pub object-no : {r : ObjectRead} {k p : ℕ} {g : Got Obj} → ObjectMet c u r u′ g → r ≡ O.No k p → g ≡ no k p
-  object-no (object-read h i v l) q = absurd (let z : _≡_ {A = ℕ} 0 1 = cc in omega arith)
+  object-no (object-read h l) q = absurd (let z : _≡_ {A = ℕ} 0 1 = cc in omega arith)
   object-no (object-refused h) q = cc
 
 -- a mark
@@ -111,6 +114,15 @@ module _ {b : ℕ} {s : List ℕ} {at : ℕ} {r : MarkRead} where
       let w = mark-within s (placeFrom s at) b l (eq-eqb (byteAt s (placeFrom s at)) b h) in
       (omega arith, omega arith)
   mark-passed l (mark-refused h q) e = absurd (let z : _≡_ {A = ℕ} 0 1 = cc in omega arith)
+
+-- a dot
+pub dot-passed : {s : List ℕ} {at a : ℕ} {r : DotRead} → Dotted s at r → r ≡ D.Dot a → Passed s at a
+dot-passed {s} {at} {a} (dot-read h q) e =
+    let z : placeFrom s at + 1 ≡ a = cc in
+    let o = place-on s at in
+    let w = mark-within s (placeFrom s at) 46 (omega arith) (eq-eqb (byteAt s (placeFrom s at)) 46 h) in
+    record { behind = omega arith; inside = omega arith }
+dot-passed (no-dot h q) e = absurd (let z : _≡_ {A = ℕ} 0 1 = cc in omega arith)
 
 -- ---- reading may go on behind what was read
 pub record After (s : List ℕ) (at : ℕ) (x : Upto) : Type 0 where
@@ -164,6 +176,3 @@ module _ {s : List ℕ} {at p : ℕ} {x : Upto} where
   -- a byte that is no 0 stands within the text
   pub byte-passed : {b : ℕ} (k : ℕ) → 1 ≤ k → After s at x → Skipped s (x .next) p → b ≡ byteAt s p → b ≡ k → p + 1 ≤ length s
   byte-passed k l a q h e = mark-within s p k l (eq-eqb (byteAt s p) k (sym h ∙ e))
-
-  pub place-fits : After s at x → Skipped s (x .next) p → p ≤ 8192
-  place-fits a q = omega (arith, a .ready .short, a .ready .inside, q .high)

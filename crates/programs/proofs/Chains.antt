@@ -11,19 +11,20 @@ use Rattle.language.specs.Tokens.{byteAt}
 use Rattle.language.specs.Reading.{Got, got, no, andThen, afterPart, afterParts}
 use Rattle.theorems.proofs.FormCounts.{form-counted}
 use Rattle.tables.specs.Tables.{recordPut, shifted}
-use Rattle.lexer.specs.Readings.{Skipped}
 use Rattle.formtable.specs.Encoding.{encodeForm, encodeForms, constantsFrom, constantsFromAll}
 use Rattle.formtable.proofs.Lengths.{length-forms, length-constants}
 use Rattle.programs.specs.declared.Upto.{Upto}
+use Rattle.programs.specs.declared.DotRead.{DotRead}
+use Rattle.programs.specs.declared.DotRead.the-variants as D
 use Rattle.programs.specs.declared.FormRead.{FormRead}
 use Rattle.programs.specs.declared.FormRead.the-variants as F
 use Rattle.programs.specs.declared.FormsRead.{FormsRead}
 use Rattle.programs.specs.declared.FormsRead.the-variants as S
 use Rattle.programs.specs.Readers.{partAt, formAt, partsAt, chainAt}
-use Rattle.programs.specs.Readings.{Ready, Run, Laid, FormMet, form-read, form-refused, FormsMet, forms-read, forms-refused, Continued}
+use Rattle.programs.specs.Readings.{Ready, Passed, Dotted, Run, Laid, FormMet, form-read, form-refused, FormsMet, forms-read, forms-refused, Continued}
 use Rattle.programs.proofs.Laying.{run-then, run-moved, run-as}
 use Rattle.programs.proofs.Equations.{form-is, one-part, more-parts}
-use Rattle.programs.proofs.Answers.{GotForm, form-got, form-no, forms-got, forms-no, After, part-after, parts-after, byte-passed}
+use Rattle.programs.proofs.Answers.{GotForm, form-got, form-no, forms-got, forms-no, After, part-after, parts-after, dot-passed}
 
 -- the cell behind a form's constants
 pub cells-at : (f : Form) {n c m d : ℕ} {t u t′ u′ : List ℕ} → Laid (encodeForm c f) (constantsFrom c f) n c t u m d t′ u′ → d ≡ c + constantCells f
@@ -40,32 +41,34 @@ module _ (s : List ℕ) (at room : ℕ) {n c : ℕ} {t u t₁ u₁ : List ℕ} {
       let q : formAt s at room ≡ no k p = form-is s at room (a .inside) ∙ ap (λ (g : Got Form). andThen g (λ f e. afterPart s f e (λ a. partsAt s a room))) (form-no m e) in
       rw q (form-refused refl)
 
-  module _ {x : Upto} {p : ℕ} (a : Ready s at n c) (m : FormMet n c t u r t₁ u₁ (partAt s at room)) (e : r ≡ F.Got x) (i : Skipped s (x .next) p) where
-    pub chain-fits : Fits w64 (p + 1)
-    chain-fits = let z = part-after room a m e in record { fits = omega (arith, z .ready .short, z .ready .inside, i .high) }
+  module _ {x : Upto} (a : Ready s at n c) (m : FormMet n c t u r t₁ u₁ (partAt s at room)) (e : r ≡ F.Got x) where
+    pub dot-requires : x .next ≤ length s
+    dot-requires = part-after room a m e .ready .inside
 
-    module _ {b : ℕ} (h : b ≡ byteAt s p) where
-      first : formAt s at room ≡ afterPart s (form-got m e .form) (x .next) (λ a. partsAt s a room)
-      first = form-is s at room (a .inside) ∙ ap (λ (g : Got Form). andThen g (λ f e. afterPart s f e (λ a. partsAt s a room))) (form-got m e .is)
+    first : formAt s at room ≡ afterPart s (form-got m e .form) (x .next) (λ a. partsAt s a room)
+    first = form-is s at room (a .inside) ∙ ap (λ (g : Got Form). andThen g (λ f e. afterPart s f e (λ a. partsAt s a room))) (form-got m e .is)
 
-      pub form-one : (b ≡ 46 → ⊥) → FormMet n c t u (F.Got x) t₁ u₁ (formAt s at room)
+    module _ {q : DotRead} (i : Dotted s (x .next) q) where
+      pub form-one : q ≡ D.Nothing → FormMet n c t u (F.Got x) t₁ u₁ (formAt s at room)
       form-one o =
           let y = form-got m e in
-          rw (first ∙ one-part s (x .next) p b (i .is) h (y .form) (λ a. partsAt s a room) o) (form-read refl refl (y .laid))
+          rw (first ∙ one-part s (x .next) (y .form) (λ a. partsAt s a room) i o) (form-read refl refl (y .laid))
 
-      module _ (o : b ≡ 46) where
-        pub chain-requires : {j : ℕ} → 5 * (length s - at) + 1 ≡ j → (5 * (length s - (p + 1)) + 2 < j) × Ready s (p + 1) (x .forms + 1) (x .cells)
-        chain-requires z =
-            let w = part-after room a m e in
-            let v = byte-passed 46 (omega arith) w i h o in
-            let y = w .ready in
-            (omega (arith, w .behind, i .low), record { short = y .short; inside = v; forms = omega (arith, i .low); cells = omega (arith, i .low) })
+      module _ {b : ℕ} (o : q ≡ D.Dot b) where
+        pub chain-ready : Ready s b (x .forms + 1) (x .cells)
+        chain-ready =
+            let y = part-after room a m e .ready in
+            let v = dot-passed i o in
+            record { short = y .short; inside = v .inside; forms = omega (arith, y .forms, v .behind); cells = omega (arith, y .cells, v .behind) }
 
-        pub form-chains : {r₂ : FormRead} {t₂ u₂ : List ℕ} → Continued (chainAt s (p + 1) room) n (x .forms) (x .cells) t₁ u₁ r₂ t₂ u₂ → FormMet n c t u r₂ t₂ u₂ (formAt s at room)
+        pub chain-below : {j : ℕ} → 5 * (length s - at) + 1 ≡ j → 5 * (length s - b) + 2 < j
+        chain-below z = let w = part-after room a m e in let v = dot-passed i o in omega (arith, v .inside, v .behind, w .behind)
+
+        pub form-chains : {r₂ : FormRead} {t₂ u₂ : List ℕ} → Continued (chainAt s b room) n (x .forms) (x .cells) t₁ u₁ r₂ t₂ u₂ → FormMet n c t u r₂ t₂ u₂ (formAt s at room)
         unfolding chainAt
         form-chains k =
             let y = form-got m e in
-            rw (first ∙ more-parts s (x .next) p b (i .is) h (y .form) (λ a. partsAt s a room) o) (k .means (y .form) c t u (y .laid))
+            rw (first ∙ more-parts s (x .next) (y .form) (λ a. partsAt s a room) i o) (k .means (y .form) c t u (y .laid))
 
 -- ---- read_chain
 chain-laid : (f : Form) (fs : Forms) {n m c c₀ k e d : ℕ} {t₀ u₀ t u t₁ t₂ u₂ t₃ : List ℕ} → Laid (encodeForm c₀ f) (constantsFrom c₀ f) n c₀ t₀ u₀ m c t u → t₁ ≡ shifted t n m

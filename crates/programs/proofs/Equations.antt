@@ -14,7 +14,10 @@ use Rattle.language.specs.Tokens.{byteAt, placeFrom}
 use Rattle.language.specs.Judging.{refusalOf}
 use Rattle.language.specs.Reading.{Got, got, no, andThen, wordAt, refused, mark, opens, afterTest, afterPart, afterParts, afterForm, readObj, readForm, readParts, readForms, readPart, calls}
 use Rattle.theorems.proofs.Calls.{part-calls, form-calls, parts-calls, forms-calls}
-use Rattle.programs.specs.Readers.{objectAt, partAt, formAt, partsAt, formsAt, plainAt, constantAt, prefixForm, prefixAt, constructAt, boundAt, buAt, roundAt, closedAt, chainAt, whileAt, conditionAt, isOpening, isArrow}
+use Rattle.programs.specs.declared.DotRead.{DotRead}
+use Rattle.programs.specs.declared.DotRead.the-variants as D
+use Rattle.programs.specs.Readings.{Dotted, dot-read, no-dot}
+use Rattle.programs.specs.Readers.{objectAt, partAt, formAt, partsAt, formsAt, plainAt, constantAt, prefixForm, prefixAt, constructAt, boundAt, buAt, roundAt, closedAt, chainAt, whileAt, Branches, both, branchesAt, conditionAt, isOpening, isArrow}
 
 -- ---- one step behind another
 module _ {A B C : Type 0} where
@@ -51,11 +54,13 @@ bound s room (got f e) =
     mark-same 44 s e (λ a. andThen (objectAt s a room) (λ x e. mark 125 s e (λ a. got (bu f x) a))) (λ a. andThen (andThen (objectAt s a room) (λ x e. mark 125 s e (λ a. got x a))) (λ x e. got (bu f x) e)) (wrap 125 s (objectAt s (placeFrom s e + 1) room) (λ x. bu f x))
     ∙ mark-then 44 s e (λ a. andThen (objectAt s a room) (λ x e. mark 125 s e (λ a. got x a))) (λ x e. got (bu f x) e)
 
-branches : (s : List ℕ) (room : ℕ) (p : Form) (g : Got Form) → andThen g (λ f e. mark 59 s e (λ a. andThen (formAt s a room) (λ h e. mark 41 s e (λ a. got (condition p f h) a)))) ≡ andThen g (λ f e. mark 59 s e (λ a. andThen (closedAt s a room) (λ h e. got (condition p f h) e)))
+pair : (s : List ℕ) (room : ℕ) (p : Form) (g : Got Form) → andThen g (λ f e. mark 59 s e (λ a. andThen (formAt s a room) (λ h e. mark 41 s e (λ a. got (condition p f h) a)))) ≡ andThen (andThen g (λ f e. mark 59 s e (λ a. andThen (closedAt s a room) (λ h e. got (both f h) e)))) (λ b e. got (condition p (b .yes) (b .no)) e)
 unfolding closedAt
-branches s room p (no n q) = refl
-branches s room p (got f e) =
-    mark-same 59 s e (λ a. andThen (formAt s a room) (λ h e. mark 41 s e (λ a. got (condition p f h) a))) (λ a. andThen (closedAt s a room) (λ h e. got (condition p f h) e)) (wrap 41 s (formAt s (placeFrom s e + 1) room) (λ h. condition p f h))
+pair s room p (no n q) = refl
+pair s room p (got f e) =
+    mark-same 59 s e (λ a. andThen (formAt s a room) (λ h e. mark 41 s e (λ a. got (condition p f h) a))) (λ a. andThen (andThen (closedAt s a room) (λ h e. got (both f h) e)) (λ b e. got (condition p (b .yes) (b .no)) e))
+    (wrap 41 s (formAt s (placeFrom s e + 1) room) (λ h. condition p f h) ∙ then-then (closedAt s (placeFrom s e + 1) room) (λ h e. got (both f h) e) (λ b e. got (condition p (b .yes) (b .no)) e))
+    ∙ mark-then 59 s e (λ a. andThen (closedAt s a room) (λ h e. got (both f h) e)) (λ b e. got (condition p (b .yes) (b .no)) e)
 
 deep : {A : Type 0} (t₁ t₂ t₃ t₄ t₅ t₆ : Bool) (z w : Got A) → (t₁ || t₂ || t₃ || t₄ || t₅ || t₆) ≡ true → cond t₁ z (cond t₂ z (cond t₃ z (cond t₄ z (cond t₅ z (cond t₆ z w))))) ≡ z
 deep true t₂ t₃ t₄ t₅ t₆ z w h = refl
@@ -137,28 +142,34 @@ module _ (s : List ℕ) (at room p b : ℕ) (l : at ≤ length s) (p-is : p ≡ 
   unfolding readPart opens
   part-deep-is h z = part-once s at room l ∙ rw (byte, z, ← p-is) (deep (eqb b 91) (eqb b 37) (eqb b 47) (eqb b 64) (eqb b 123) (eqb b 40) (no 7 p) _ h)
 
--- ---- behind a form or a part: p is the next place and b its byte
+-- ---- behind a part
+module _ (s : List ℕ) (e : ℕ) {q : DotRead} (f : Form) (r : ℕ → Got Forms) where
+  pub one-part : Dotted s e q → q ≡ D.Nothing → afterPart s f e r ≡ got f e
+  unfolding afterPart
+  one-part (dot-read h i) z = absurd (let y : _≡_ {A = ℕ} 0 1 = cc in omega arith)
+  one-part (no-dot h i) z = rw (ne-eqb (byteAt s (placeFrom s e)) 46 h)
+
+  pub last-part : Dotted s e q → q ≡ D.Nothing → afterParts s f e r ≡ got (f & stop) e
+  unfolding afterParts
+  last-part (dot-read h i) z = absurd (let y : _≡_ {A = ℕ} 0 1 = cc in omega arith)
+  last-part (no-dot h i) z = rw (ne-eqb (byteAt s (placeFrom s e)) 46 h)
+
+  pub more-parts : {a : ℕ} → Dotted s e q → q ≡ D.Dot a → afterPart s f e r ≡ andThen (r a) (λ fs e. got (chain (f & fs)) e)
+  unfolding afterPart
+  more-parts {a} (dot-read h i) z = let y : placeFrom s e + 1 ≡ a = cc in rw (h, y)
+  more-parts (no-dot h i) z = absurd (let y : _≡_ {A = ℕ} 0 1 = cc in omega arith)
+
+  pub next-part : {a : ℕ} → Dotted s e q → q ≡ D.Dot a → afterParts s f e r ≡ andThen (r a) (λ fs e. got (f & fs) e)
+  unfolding afterParts
+  next-part {a} (dot-read h i) z = let y : placeFrom s e + 1 ≡ a = cc in rw (h, y)
+  next-part (no-dot h i) z = absurd (let y : _≡_ {A = ℕ} 0 1 = cc in omega arith)
+
+-- ---- behind a form: p is the next place and b its byte
 module _ (s : List ℕ) (e p b : ℕ) (p-is : p ≡ placeFrom s e) (b-is : b ≡ byteAt s p) where
   next : byteAt s (placeFrom s e) ≡ b
   next = ap (λ (q : ℕ). byteAt s q) (sym p-is) ∙ sym b-is
 
   module _ (f : Form) where
-    pub one-part : (r : ℕ → Got Forms) → (b ≡ 46 → ⊥) → afterPart s f e r ≡ got f e
-    unfolding afterPart
-    one-part r h = rw (next, ne-eqb b 46 h)
-
-    pub more-parts : (r : ℕ → Got Forms) → b ≡ 46 → afterPart s f e r ≡ andThen (r (p + 1)) (λ fs e. got (chain (f & fs)) e)
-    unfolding afterPart
-    more-parts r h = rw (next, h, ← p-is)
-
-    pub last-part : (r : ℕ → Got Forms) → (b ≡ 46 → ⊥) → afterParts s f e r ≡ got (f & stop) e
-    unfolding afterParts
-    last-part r h = rw (next, ne-eqb b 46 h)
-
-    pub next-part : (r : ℕ → Got Forms) → b ≡ 46 → afterParts s f e r ≡ andThen (r (p + 1)) (λ fs e. got (f & fs) e)
-    unfolding afterParts
-    next-part r h = rw (next, h, ← p-is)
-
     pub last-form : (r : ℕ → Got Forms) → b ≡ 93 → afterForm s f e r ≡ got (f & stop) (p + 1)
     unfolding afterForm
     last-form r h = rw (next, h, ← p-is)
@@ -186,5 +197,5 @@ module _ (s : List ℕ) (e p b : ℕ) (p-is : p ≡ placeFrom s e) (b-is : b ≡
       test-other a h i = rw (← p-is, a, sym b-is, ne-eqb b 63 h, ne-eqb b 41 i)
 
 pub test-condition : (s : List ℕ) (e p room : ℕ) (f : Form) → p ≡ placeFrom s e → isArrow s p ≡ true → afterTest s f e (λ a. formAt s a room) ≡ conditionAt s (p + 2) room f
-unfolding afterTest conditionAt closedAt
-test-condition s e p room f p-is a = rw (← p-is, a) (branches s room f (formAt s (p + 2) room))
+unfolding afterTest conditionAt branchesAt
+test-condition s e p room f p-is a = rw (← p-is, a) (pair s room f (formAt s (p + 2) room))

@@ -6,3 +6,4 @@ pub mod Chains
 pub mod Rows
 pub mod Parts
 pub mod Rounds
+pub mod Plains

@@ -21,7 +21,6 @@ use Rattle.tables.specs.Tables.{recordPut}
 use Rattle.lexer.specs.Readings.{Skipped}
 use Rattle.cells.specs.Encoding.{valOf, cellsFrom}
 use Rattle.formtable.specs.Encoding.{lowOf, highOf, encodeForm, constantsFrom}
-use Rattle.objects.specs.declared.ObjectAt.{ObjectAt}
 use Rattle.objects.specs.declared.ObjectRead.{ObjectRead}
 use Rattle.objects.specs.declared.ObjectRead.the-variants as O
 use Rattle.programs.specs.declared.Upto.{Upto}
@@ -66,28 +65,22 @@ module _ (s : List ℕ) (at room : ℕ) {n c p b : ℕ} (a : Ready s at n c) (i 
       part-deep z = rw (part-deep-is s at room p b (a .inside) (i .is) h opens z) (form-refused refl)
 
       -- behind the mark
-      pub part-constant-requires : Ready s (p + 1) (n + 1) c
-      part-constant-requires =
+      pub part-ready : Ready s (p + 1) (n + 1) c
+      part-ready =
           let w = mark-within s p b (opening-some b opens) (eq-eqb (byteAt s p) b (sym h)) in
           record { short = a .short; inside = w; forms = omega (arith, a .forms, i .low); cells = omega (arith, a .cells, i .low) }
 
       below : (q j : ℕ) → q ≤ 4 → 5 * (length s - at) ≡ j → 5 * (length s - (p + 1)) + q < j
-      below q j l z = omega (arith, part-constant-requires .inside, i .low)
+      below q j l z = omega (arith, part-ready .inside, i .low)
 
-      pub part-construct-requires : {j : ℕ} → 5 * (length s - at) ≡ j → (5 * (length s - (p + 1)) + 3 < j) × Ready s (p + 1) (n + 1) c
-      part-construct-requires {j} z = (below 3 j (omega arith) z, part-constant-requires)
+      pub construct-below : {j : ℕ} → 5 * (length s - at) ≡ j → 5 * (length s - (p + 1)) + 3 < j
+      construct-below {j} z = below 3 j (omega arith) z
 
-      pub part-insert-requires : {j : ℕ} → 5 * (length s - at) ≡ j → (5 * (length s - (p + 1)) + 1 < j) × (Ready s (p + 1) (n + 1) c × (7 ≤ 7) × (7 ≤ 8))
-      part-insert-requires {j} z = (below 1 j (omega arith) z, (part-constant-requires, omega arith, omega arith))
+      pub round-below : {j : ℕ} → 5 * (length s - at) ≡ j → 5 * (length s - (p + 1)) + 2 < j
+      round-below {j} z = below 2 j (omega arith) z
 
-      pub part-apply-requires : {j : ℕ} → 5 * (length s - at) ≡ j → (5 * (length s - (p + 1)) + 1 < j) × (Ready s (p + 1) (n + 1) c × (7 ≤ 8) × (8 ≤ 8))
-      part-apply-requires {j} z = (below 1 j (omega arith) z, (part-constant-requires, omega arith, omega arith))
-
-      pub part-bu-requires : {j : ℕ} → 5 * (length s - at) ≡ j → (5 * (length s - (p + 1)) + 1 < j) × Ready s (p + 1) (n + 1) c
-      part-bu-requires {j} z = (below 1 j (omega arith) z, part-constant-requires)
-
-      pub part-round-requires : {j : ℕ} → 5 * (length s - at) ≡ j → (5 * (length s - (p + 1)) + 2 < j) × Ready s (p + 1) (n + 1) c
-      part-round-requires {j} z = (below 2 j (omega arith) z, part-constant-requires)
+      pub prefix-below : {j : ℕ} → 5 * (length s - at) ≡ j → 5 * (length s - (p + 1)) + 1 < j
+      prefix-below {j} z = below 1 j (omega arith) z
 
       pub part-round : {t u t′ u′ : List ℕ} {r : FormRead} → (room ≡ 0 → ⊥) → (b ≡ 91 → ⊥) → (b ≡ 37 → ⊥) → (b ≡ 47 → ⊥) → (b ≡ 64 → ⊥) → (b ≡ 123 → ⊥) → FormMet n c t u r t′ u′ (roundAt s (p + 1) (room - 1)) → FormMet n c t u r t′ u′ (partAt s at room)
       part-round z o₁ o₂ o₃ o₄ o₅ m = rw (part-round-is s at room p b (a .inside) (i .is) h (omega arith) (round-byte b opens o₁ o₂ o₃ o₄ o₅)) m
@@ -130,7 +123,7 @@ module _ (kind : ℕ) (s : List ℕ) (at room : ℕ) {n c : ℕ} {t u t₁ u₁ 
   prefix-is a b m e w = let y = form-got m e in rw (y .is) (form-read refl refl (prefix-laid kind (y .form) a b (y .laid) w))
 
 -- ---- read_bu
-tag-few : (c : ℕ) (x : Obj) → valOf c x .tag < 4
+pub tag-few : (c : ℕ) (x : Obj) → valOf c x .tag < 4
 tag-few c (int (pos k)) = omega arith
 tag-few c (int (negsuc k)) = omega arith
 tag-few c (symbol w) = omega arith
@@ -157,11 +150,11 @@ module _ (s : List ℕ) (at room n : ℕ) {c : ℕ} {t u t₁ u₁ : List ℕ} {
       unfolding buAt
       bu-unbound g = let y = form-got m e in rw (y .is, object-no k g) (form-refused refl)
 
-      module _ {v : ObjectAt} (g : q ≡ O.Got v) where
-        pub bu-put-requires : v .value .tag < 4
+      module _ {v : Val} {next d : ℕ} (g : q ≡ O.Got v next d) where
+        pub bu-put-requires : v .tag < 4
         bu-put-requires = let o = object-got k g in rw (o .value) (tag-few (x .cells) (o .object))
 
-        pub bu-is : {r₂ : FormRead} {t₂ : List ℕ} → BuPut n (x .forms) v t₁ r₂ t₂ → FormMet n c t u r₂ t₂ u₂ (buAt s at room)
+        pub bu-is : {r₂ : FormRead} {t₂ : List ℕ} → BuPut n (x .forms) d next v t₁ r₂ t₂ → FormMet n c t u r₂ t₂ u₂ (buAt s at room)
         unfolding buAt
         bu-is w =
             let y = form-got m e in

@@ -19,12 +19,13 @@ use Rattle.formtable.specs.Encoding.{encodeForm, constantsFrom}
 use Rattle.programs.specs.declared.Upto.{Upto}
 use Rattle.programs.specs.declared.MarkRead.{MarkRead}
 use Rattle.programs.specs.declared.MarkRead.the-variants as M
+use Rattle.programs.specs.declared.TestRead.{TestRead}
+use Rattle.programs.specs.declared.TestRead.the-variants as T
 use Rattle.programs.specs.declared.FormRead.{FormRead}
 use Rattle.programs.specs.declared.FormRead.the-variants as F
-use Rattle.programs.specs.Readers.{formAt, closedAt, roundAt, whileAt, conditionAt, isArrow}
-use Rattle.programs.specs.Readings.{Ready, Marked, Run, Laid, FormMet, form-read, form-refused, Continued}
+use Rattle.programs.specs.Readers.{formAt, closedAt, roundAt, whileAt, Branches, both, branchesAt, conditionAt}
+use Rattle.programs.specs.Readings.{Ready, Marked, testOf, Passed, Tested, Run, Laid, FormMet, form-read, form-refused, BranchesMet, branches-read, branches-refused, Continued}
 use Rattle.programs.proofs.Laying.{run-then, run-moved, run-as}
-use Rattle.programs.proofs.Equations.{test-condition, test-while, test-closed, test-other}
 use Rattle.programs.proofs.Answers.{GotForm, form-got, form-no, mark-got, mark-no, mark-passed, After, form-after, byte-passed}
 use Rattle.programs.proofs.Chains.{cells-at}
 
@@ -39,15 +40,16 @@ module _ (p f : Form) {n m c c₀ e d : ℕ} {t₀ u₀ t u t₁ t₂ u₂ : Lis
         cells = run-then (l .cells) (run-as (ap (λ (x : ℕ). constantsFrom x f) z) (h .cells));
       }
 
-  condition-laid : (g : Form) {e₁ d₁ : ℕ} {t₃ u₃ t₄ : List ℕ} → Laid (encodeForm d g) (constantsFrom d g) e d t₂ u₂ e₁ d₁ t₃ u₃ → t₄ ≡ recordPut t₃ n 9 3 0 0 → Laid (encodeForm c₀ (condition p f g)) (constantsFrom c₀ (condition p f g)) n c₀ t₀ u₀ e₁ d₁ t₄ u₃
-  unfolding encodeForm constantsFrom
-  condition-laid g k w =
-      let z = cells-at p l in
-      let y : d ≡ c₀ + constantCells p + constantCells f = cells-at f h ∙ ap (λ (x : ℕ). x + constantCells f) z in
-      record {
-        records = run-moved (l .records) s (run-then (run-as (ap (λ (x : ℕ). encodeForm x f) z) (h .records)) (run-as (ap (λ (x : ℕ). encodeForm x g) y) (k .records))) w;
-        cells = run-then (l .cells) (run-then (run-as (ap (λ (x : ℕ). constantsFrom x f) z) (h .cells)) (run-as (ap (λ (x : ℕ). constantsFrom x g) y) (k .cells)));
-      }
+condition-laid : (p : Form) (b : Branches) {n m c c₀ e d : ℕ} {t₀ u₀ t u t₁ t₂ u₂ t₃ : List ℕ} → Laid (encodeForm c₀ p) (constantsFrom c₀ p) n c₀ t₀ u₀ m c t u → t₁ ≡ shifted t n m
+    → Laid (encodeForm c (b .yes) ++ encodeForm (c + constantCells (b .yes)) (b .no)) (constantsFrom c (b .yes) ++ constantsFrom (c + constantCells (b .yes)) (b .no)) (m + 1) c t₁ u e d t₂ u₂
+    → t₃ ≡ recordPut t₂ n 9 3 0 0 → Laid (encodeForm c₀ (condition p (b .yes) (b .no))) (constantsFrom c₀ (condition p (b .yes) (b .no))) n c₀ t₀ u₀ e d t₃ u₂
+unfolding encodeForm constantsFrom
+condition-laid p b l s h w =
+    let z = cells-at p l in
+    record {
+      records = run-moved (l .records) s (run-as (ap (λ (x : ℕ). encodeForm x (b .yes) ++ encodeForm (x + constantCells (b .yes)) (b .no)) z) (h .records)) w;
+      cells = run-then (l .cells) (run-as (ap (λ (x : ℕ). constantsFrom x (b .yes) ++ constantsFrom (x + constantCells (b .yes)) (b .no)) z) (h .cells));
+    }
 
 -- ---- read_closed
 module _ (s : List ℕ) (at room : ℕ) {n c : ℕ} {t u t₁ u₁ : List ℕ} {r : FormRead} (m : FormMet n c t u r t₁ u₁ (formAt s at room)) where
@@ -57,8 +59,8 @@ module _ (s : List ℕ) (at room : ℕ) {n c : ℕ} {t u t₁ u₁ : List ℕ} {
 
   module _ {x : Upto} (e : r ≡ F.Got x) where
     -- a mark may be read behind the form
-    pub form-mark-requires : Ready s at n c → (length s ≤ 8192) × (x .next ≤ length s)
-    form-mark-requires a = let w = form-after room a m e in (w .ready .short, w .ready .inside)
+    pub form-mark-requires : Ready s at n c → x .next ≤ length s
+    form-mark-requires a = form-after room a m e .ready .inside
 
     pub closed-open : {q : MarkRead} {k p : ℕ} {t′ u′ : List ℕ} → Marked 41 s (x .next) q → q ≡ M.No k p → FormMet n c t u (F.No k p) t′ u′ (closedAt s at room)
     unfolding closedAt
@@ -78,36 +80,63 @@ module _ (s : List ℕ) (at room : ℕ) {n m c : ℕ} {t u t₁ t₂ u₂ : List
   unfolding whileAt
   while-is g h e w = record { means = λ f c₀ t₀ u₀ l. let y = form-got h e in rw (y .is) (form-read refl refl (while-laid f (y .form) l g (y .laid) w)) }
 
--- ---- read_condition
-pub condition-requires : (s : List ℕ) (at room : ℕ) {m c a k : ℕ} {t u t₂ u₂ : List ℕ} {r : FormRead} {x : Upto} {q : MarkRead} → 5 * (length s - at) + 3 ≡ k → Ready s at m c → FormMet m c t u r t₂ u₂ (formAt s at room) → r ≡ F.Got x → Marked 59 s (x .next) q → q ≡ M.Got a → (5 * (length s - a) + 2 < k) × Ready s a (x .forms) (x .cells)
-condition-requires s at room z b h e i j =
-    let w = form-after room b h e in
-    let v = mark-passed (omega arith) i j in
-    let y = w .ready in
-    (omega (arith, w .behind, v .0, v .1), record { short = y .short; inside = v .1; forms = omega (arith, y .forms, v .0); cells = omega (arith, y .cells, v .0) })
-
-module _ (s : List ℕ) (at room : ℕ) {n m c : ℕ} {t u t₁ t₂ u₂ : List ℕ} {r : FormRead} (h : FormMet (m + 1) c t₁ u r t₂ u₂ (formAt s at room)) where
-  pub condition-stops : {k p : ℕ} {t′ u′ : List ℕ} → r ≡ F.No k p → Continued (conditionAt s at room) n m c t u (F.No k p) t′ u′
-  unfolding conditionAt
-  condition-stops e = record { means = λ f c₀ t₀ u₀ l. rw (form-no h e) (form-refused refl) }
+-- ---- read_branches
+module _ (s : List ℕ) (at room : ℕ) {n c : ℕ} {t u t₁ u₁ : List ℕ} {r : FormRead} (m : FormMet n c t u r t₁ u₁ (formAt s at room)) where
+  pub branches-stops : {k p : ℕ} {t′ u′ : List ℕ} → r ≡ F.No k p → BranchesMet n c t u (F.No k p) t′ u′ (branchesAt s at room)
+  unfolding branchesAt
+  branches-stops e = rw (form-no m e) (branches-refused refl)
 
   module _ {x : Upto} {q : MarkRead} (e : r ≡ F.Got x) (i : Marked 59 s (x .next) q) where
-    pub condition-open : {k p : ℕ} {t′ u′ : List ℕ} → q ≡ M.No k p → Continued (conditionAt s at room) n m c t u (F.No k p) t′ u′
-    unfolding conditionAt
-    condition-open g = record { means = λ f c₀ t₀ u₀ l. let y = form-got h e in rw (y .is, mark-no (λ a. andThen (closedAt s a room) (λ g e. got (condition f (y .form) g) e)) i g) (form-refused refl) }
+    begun : branchesAt s at room ≡ mark 59 s (x .next) (λ a. andThen (closedAt s a room) (λ g e₁. got (both (form-got m e .form) g) e₁))
+    unfolding branchesAt
+    begun = ap (λ (g : Got Form). andThen g (λ f e. mark 59 s e (λ a. andThen (closedAt s a room) (λ g e. got (both f g) e)))) (form-got m e .is)
+
+    pub branches-open : {k p : ℕ} {t′ u′ : List ℕ} → q ≡ M.No k p → BranchesMet n c t u (F.No k p) t′ u′ (branchesAt s at room)
+    branches-open g = rw (begun ∙ mark-no (λ a. andThen (closedAt s a room) (λ g e₁. got (both (form-got m e .form) g) e₁)) i g) (branches-refused refl)
 
     module _ {a : ℕ} (j : q ≡ M.Got a) where
-      module _ {r₂ : FormRead} {t₃ u₃ : List ℕ} (k : FormMet (x .forms) (x .cells) t₂ u₂ r₂ t₃ u₃ (closedAt s a room)) where
-        pub condition-closes : {o p : ℕ} {t′ u′ : List ℕ} → r₂ ≡ F.No o p → Continued (conditionAt s at room) n m c t u (F.No o p) t′ u′
-        unfolding conditionAt
-        condition-closes g = record { means = λ f c₀ t₀ u₀ l. let y = form-got h e in rw (y .is, mark-got (λ a. andThen (closedAt s a room) (λ g e. got (condition f (y .form) g) e)) i j, form-no k g) (form-refused refl) }
+      pub branches-are : {r₂ : FormRead} {t₂ u₂ : List ℕ} → FormMet (x .forms) (x .cells) t₁ u₁ r₂ t₂ u₂ (closedAt s a room) → BranchesMet n c t u r₂ t₂ u₂ (branchesAt s at room)
+      branches-are k = rw (begun ∙ mark-got (λ a. andThen (closedAt s a room) (λ g e₁. got (both (form-got m e .form) g) e₁)) i j) (second k)
+        where
+          y : GotForm n c t u x t₁ u₁ (formAt s at room)
+          y = form-got m e
 
-        pub condition-is : {z : Upto} {t₄ : List ℕ} → t₁ ≡ shifted t n m → r₂ ≡ F.Got z → t₄ ≡ recordPut t₃ n 9 3 0 0 → Continued (conditionAt s at room) n m c t u (F.Got z) t₄ u₃
-        unfolding conditionAt
-        condition-is g v w = record { means = λ f c₀ t₀ u₀ l.
-            let y = form-got h e in
-            let o = form-got k v in
-            rw (y .is, mark-got (λ a. andThen (closedAt s a room) (λ g e. got (condition f (y .form) g) e)) i j, o .is) (form-read refl refl (condition-laid f (y .form) l g (y .laid) (o .form) (o .laid) w)) }
+          second : {r₂ : FormRead} {t₂ u₂ : List ℕ} {h : Got Form} → FormMet (x .forms) (x .cells) t₁ u₁ r₂ t₂ u₂ h → BranchesMet n c t u r₂ t₂ u₂ (andThen h (λ g e₁. got (both (y .form) g) e₁))
+          second (form-refused z) = branches-refused z
+          second (form-read {f = g} z v l) =
+              let d = cells-at (y .form) (y .laid) in
+              branches-read z v (record {
+                records = run-then (y .laid .records) (run-as (ap (λ (k : ℕ). encodeForm k g) d) (l .records));
+                cells = run-then (y .laid .cells) (run-as (ap (λ (k : ℕ). constantsFrom k g) d) (l .cells));
+              })
+
+      module _ (b : Ready s at n c) where
+        pub closed-ready : Ready s a (x .forms) (x .cells)
+        closed-ready =
+            let y = form-after room b m e .ready in
+            let v = mark-passed (omega arith) i j in
+            record { short = y .short; inside = v .1; forms = omega (arith, y .forms, v .0); cells = omega (arith, y .cells, v .0) }
+
+        pub closed-below : {k : ℕ} → 5 * (length s - at) + 2 ≡ k → 5 * (length s - a) + 2 < k
+        closed-below z = let w = form-after room b m e in let v = mark-passed (omega arith) i j in omega (arith, w .behind, v .0, v .1)
+
+-- ---- read_condition
+module _ (s : List ℕ) (at room : ℕ) {n m c : ℕ} {t u t₁ t₂ u₂ : List ℕ} {r : FormRead} where
+  pub condition-stops : {k p : ℕ} {t′ u′ : List ℕ} → BranchesMet (m + 1) c t₁ u r t₂ u₂ (branchesAt s at room) → r ≡ F.No k p → Continued (conditionAt s at room) n m c t u (F.No k p) t′ u′
+  unfolding conditionAt
+  condition-stops {k} {p} {t′} {u′} h e = record { means = λ f c₀ t₀ u₀ l. go f h }
+    where
+      go : {c₀ : ℕ} {t₀ u₀ : List ℕ} (f : Form) {g : Got Branches} → BranchesMet (m + 1) c t₁ u r t₂ u₂ g → FormMet n c₀ t₀ u₀ (F.No k p) t′ u′ (andThen g (λ b e. got (condition f (b .yes) (b .no)) e))
+      go f (branches-read z v w) = absurd (let y : _≡_ {A = ℕ} 0 1 = cc in omega arith)
+      go f (branches-refused {k = j} {p = v} z) = form-refused {k = j} {p = v} (cc)
+
+  pub condition-is : {x : Upto} {t₃ : List ℕ} → t₁ ≡ shifted t n m → BranchesMet (m + 1) c t₁ u r t₂ u₂ (branchesAt s at room) → r ≡ F.Got x → t₃ ≡ recordPut t₂ n 9 3 0 0 → Continued (conditionAt s at room) n m c t u (F.Got x) t₃ u₂
+  unfolding conditionAt
+  condition-is {x} {t₃} q h e w = record { means = λ f c₀ t₀ u₀ l. go f l h }
+    where
+      go : {c₀ : ℕ} {t₀ u₀ : List ℕ} (f : Form) {g : Got Branches} → Laid (encodeForm c₀ f) (constantsFrom c₀ f) n c₀ t₀ u₀ m c t u → BranchesMet (m + 1) c t₁ u r t₂ u₂ g → FormMet n c₀ t₀ u₀ (F.Got x) t₃ u₂ (andThen g (λ b e. got (condition f (b .yes) (b .no)) e))
+      go f l (branches-read {b = b} {x = y} z v k) = form-read {x = y} (cc) v (condition-laid f b l q k w)
+      go f l (branches-refused z) = absurd (let y : _≡_ {A = ℕ} 0 1 = cc in omega arith)
 
 -- ---- read_round
 module _ (s : List ℕ) (at room : ℕ) {n c : ℕ} {t u t₁ u₁ : List ℕ} {r : FormRead} (m : FormMet n c t u r t₁ u₁ (formAt s at room)) where
@@ -115,57 +144,46 @@ module _ (s : List ℕ) (at room : ℕ) {n c : ℕ} {t u t₁ u₁ : List ℕ} {
   unfolding roundAt
   round-stops e = rw (form-no m e) (form-refused refl)
 
-  module _ {x : Upto} {p : ℕ} (e : r ≡ F.Got x) (i : Skipped s (x .next) p) where
-    first : roundAt s at room ≡ afterTest s (form-got m e .form) (x .next) (λ a. formAt s a room)
+  module _ {x : Upto} {q : TestRead} (e : r ≡ F.Got x) (i : Tested s (x .next) q) where
+    tested : roundAt s at room ≡ testOf s room (form-got m e .form) q
     unfolding roundAt
-    first = ap (λ (g : Got Form). andThen g (λ f e. afterTest s f e (λ a. formAt s a room))) (form-got m e .is)
+    tested = ap (λ (g : Got Form). andThen g (λ f e. afterTest s f e (λ a. formAt s a room))) (form-got m e .is) ∙ i .is (form-got m e .form) room
 
-    module _ (a : Ready s at (n + 1) c) where
-      behind : After s at x
-      behind = form-after room (record { short = a .short; inside = a .inside; forms = omega (arith, a .forms); cells = a .cells }) m e
+    pub round-no : {k p : ℕ} {t′ u′ : List ℕ} → q ≡ T.No k p → FormMet n c t u (F.No k p) t′ u′ (roundAt s at room)
+    round-no g = rw (tested ∙ ap (λ (w : TestRead). testOf s room (form-got m e .form) w) g) (form-refused refl)
 
-      pub round-arrow-requires : p ≤ 8192
-      round-arrow-requires = let w = behind in omega (arith, w .ready .short, w .ready .inside, i .high)
+    module _ {a : ℕ} where
+      pub round-is : q ≡ T.Closed a → FormMet n c t u (F.Got (record { next = a; forms = x .forms; cells = x .cells })) t₁ u₁ (roundAt s at room)
+      round-is g = rw (tested ∙ ap (λ (w : TestRead). testOf s room (form-got m e .form) w) g) (form-read refl refl (form-got m e .laid))
 
-      pub round-one-fits : Fits w64 (p + 1)
-      round-one-fits = let w = behind in record { fits = omega (arith, w .ready .short, w .ready .inside, i .high) }
+      pub round-while : {r₂ : FormRead} {t₂ u₂ : List ℕ} → q ≡ T.While a → Continued (whileAt s a room) n (x .forms) (x .cells) t₁ u₁ r₂ t₂ u₂ → FormMet n c t u r₂ t₂ u₂ (roundAt s at room)
+      round-while g k = let y = form-got m e in rw (tested ∙ ap (λ (w : TestRead). testOf s room (form-got m e .form) w) g) (k .means (y .form) c t u (y .laid))
 
-      pub round-two-fits : Fits w64 (p + 2)
-      round-two-fits = let w = behind in record { fits = omega (arith, w .ready .short, w .ready .inside, i .high) }
+      pub round-condition : {r₂ : FormRead} {t₂ u₂ : List ℕ} → q ≡ T.Condition a → Continued (conditionAt s a room) n (x .forms) (x .cells) t₁ u₁ r₂ t₂ u₂ → FormMet n c t u r₂ t₂ u₂ (roundAt s at room)
+      round-condition g k = let y = form-got m e in rw (tested ∙ ap (λ (w : TestRead). testOf s room (form-got m e .form) w) g) (k .means (y .form) c t u (y .laid))
 
-      pub round-condition-requires : {o : Bool} {j : ℕ} → 5 * (length s - at) + 2 ≡ j → o ≡ isArrow s p → o ≡ true → (5 * (length s - (p + 2)) + 3 < j) × Ready s (p + 2) (x .forms + 1) (x .cells)
-      round-condition-requires z h g =
-          let w = behind in
-          let y = w .ready in
-          let q = and-eq-true-iff (eqb (byteAt s p) 45) (eqb (byteAt s (p + 1)) 62) .0 (sym h ∙ g) in
-          let v = mark-within s (p + 1) 62 (omega arith) (q .1) in
-          (omega (arith, w .behind, i .low), record { short = y .short; inside = omega arith; forms = omega (arith, y .forms, i .low); cells = omega (arith, y .cells, i .low) })
+module _ (s : List ℕ) (at room : ℕ) {n c : ℕ} {t u t₁ u₁ : List ℕ} {r : FormRead} {x : Upto} (b : Ready s at (n + 1) c) (m : FormMet n c t u r t₁ u₁ (formAt s at room)) (e : r ≡ F.Got x) where
+  behind : After s at x
+  behind = form-after room (record { short = b .short; inside = b .inside; forms = omega (arith, b .forms); cells = b .cells }) m e
 
-      pub round-while-requires : {b j : ℕ} → 5 * (length s - at) + 2 ≡ j → b ≡ byteAt s p → b ≡ 63 → (5 * (length s - (p + 1)) + 3 < j) × Ready s (p + 1) (x .forms + 1) (x .cells)
-      round-while-requires z h g =
-          let w = behind in
-          let y = w .ready in
-          let v = byte-passed 63 (omega arith) w i h g in
-          (omega (arith, w .behind, i .low), record { short = y .short; inside = v; forms = omega (arith, y .forms, i .low); cells = omega (arith, y .cells, i .low) })
+  pub round-test-requires : x .next ≤ length s
+  round-test-requires = behind .ready .inside
 
-    module _ {o : Bool} (h : o ≡ isArrow s p) where
-      pub round-condition : {r₂ : FormRead} {t₂ u₂ : List ℕ} → o ≡ true → Continued (conditionAt s (p + 2) room) n (x .forms) (x .cells) t₁ u₁ r₂ t₂ u₂ → FormMet n c t u r₂ t₂ u₂ (roundAt s at room)
-      round-condition g k =
-          let y = form-got m e in
-          rw (first ∙ test-condition s (x .next) p room (y .form) (i .is) (sym h ∙ g)) (k .means (y .form) c t u (y .laid))
+  onward : {a : ℕ} → Passed s (x .next) a → Ready s a (x .forms + 1) (x .cells)
+  onward p = let w = behind .ready in record { short = w .short; inside = p .inside; forms = omega (arith, w .forms, p .behind); cells = omega (arith, w .cells, p .behind) }
 
-      module _ {b : ℕ} (g : o ≡ false) (q : b ≡ byteAt s p) where
-        pub round-while : {r₂ : FormRead} {t₂ u₂ : List ℕ} → b ≡ 63 → Continued (whileAt s (p + 1) room) n (x .forms) (x .cells) t₁ u₁ r₂ t₂ u₂ → FormMet n c t u r₂ t₂ u₂ (roundAt s at room)
-        round-while z k =
-            let y = form-got m e in
-            rw (first ∙ test-while s (x .next) p b (i .is) q (y .form) room (sym h ∙ g) z) (k .means (y .form) c t u (y .laid))
+  falls : {a j : ℕ} → Passed s (x .next) a → 5 * (length s - at) + 2 ≡ j → 5 * (length s - a) + 3 < j
+  falls p z = omega (arith, behind .behind, p .behind, p .inside)
 
-        pub round-other : {k : ℕ} {t′ u′ : List ℕ} → (b ≡ 63 → ⊥) → (b ≡ 41 → ⊥) → k ≡ refusalOf (wordAt s p) → FormMet n c t u (F.No k p) t′ u′ (roundAt s at room)
-        round-other {k} z w v =
-            let y = form-got m e in
-            rw (first ∙ test-other s (x .next) p b (i .is) q (y .form) room (sym h ∙ g) z w ∙ ap (λ (j : ℕ). no j p) (sym v)) (form-refused refl)
+  module _ {q : TestRead} {a : ℕ} (i : Tested s (x .next) q) where
+    pub while-ready : q ≡ T.While a → Ready s a (x .forms + 1) (x .cells)
+    while-ready g = onward (i .loops a g)
 
-        pub round-is : b ≡ 41 → FormMet n c t u (F.Got (record { next = p + 1; forms = x .forms; cells = x .cells })) t₁ u₁ (roundAt s at room)
-        round-is z =
-            let y = form-got m e in
-            rw (first ∙ test-closed s (x .next) p b (i .is) q (y .form) room (sym h ∙ g) z) (form-read refl refl (y .laid))
+    pub while-below : {j : ℕ} → q ≡ T.While a → 5 * (length s - at) + 2 ≡ j → 5 * (length s - a) + 3 < j
+    while-below g z = falls (i .loops a g) z
+
+    pub condition-ready : q ≡ T.Condition a → Ready s a (x .forms + 1) (x .cells)
+    condition-ready g = onward (i .branches a g)
+
+    pub condition-below : {j : ℕ} → q ≡ T.Condition a → 5 * (length s - at) + 2 ≡ j → 5 * (length s - a) + 3 < j
+    condition-below g z = falls (i .branches a g) z

@@ -18,15 +18,17 @@ use Rattle.formtable.specs.Encoding.{encodeForm, encodeForms, constantsFrom, co
 use Rattle.formtable.proofs.Lengths.{length-all-constants}
 use Rattle.formtable.proofs.Appended.{forms-appended, constants-appended, one-form, one-constants}
 use Rattle.programs.specs.declared.Upto.{Upto}
+use Rattle.programs.specs.declared.DotRead.{DotRead}
+use Rattle.programs.specs.declared.DotRead.the-variants as D
 use Rattle.programs.specs.declared.FormRead.{FormRead}
 use Rattle.programs.specs.declared.FormRead.the-variants as F
 use Rattle.programs.specs.declared.FormsRead.{FormsRead}
 use Rattle.programs.specs.declared.FormsRead.the-variants as S
 use Rattle.programs.specs.Readers.{partAt, formAt, partsAt, formsAt, constructAt}
-use Rattle.programs.specs.Readings.{Ready, Run, Laid, FormMet, form-read, form-refused, FormsMet, forms-read, forms-refused}
+use Rattle.programs.specs.Readings.{Ready, Passed, Dotted, Run, Laid, FormMet, form-read, form-refused, FormsMet, forms-read, forms-refused}
 use Rattle.programs.proofs.Laying.{run-none, run-then, run-under, run-as}
 use Rattle.programs.proofs.Equations.{parts-are, forms-are, last-part, next-part, last-form, next-form, other-form, then-got}
-use Rattle.programs.proofs.Answers.{GotForm, form-got, form-no, forms-got, forms-no, After, part-after, form-after, byte-passed}
+use Rattle.programs.proofs.Answers.{GotForm, form-got, form-no, forms-got, forms-no, After, part-after, form-after, byte-passed, dot-passed}
 
 -- the forms read so far from `from` on, k of them; reading goes on at `at`
 pub record Going (readAt : List ℕ → ℕ → ℕ → Got Forms) (s : List ℕ) (room from first cell : ℕ) (t₀ u₀ : List ℕ) (at n c k : ℕ) (t u : List ℕ) : Type 0 where
@@ -88,8 +90,8 @@ row-no readAt w j p h = rw (w .is ∙ ap (λ (v : Got Forms). andThen v (λ gs e
 
 -- ---- read_parts
 module _ (s : List ℕ) (room : ℕ) {from first cell at n c k : ℕ} {t₀ u₀ t u : List ℕ} (w : Going partsAt s room from first cell t₀ u₀ at n c k t u) where
-  pub parts-part-requires : {j : ℕ} → 5 * (length s - from) + 1 ≡ j → (5 * (length s - at) < j) × Ready s at n c
-  parts-part-requires z = (omega (arith, w .onward), w .ready)
+  pub parts-below : {j : ℕ} → 5 * (length s - from) + 1 ≡ j → 5 * (length s - at) < j
+  parts-below z = omega (arith, w .onward)
 
   pub parts-count-fits : Fits w32 (k + 1)
   parts-count-fits = record { fits = omega (arith, w .few, w .ready .inside, w .ready .short) }
@@ -101,35 +103,33 @@ module _ (s : List ℕ) (room : ℕ) {from first cell at n c k : ℕ} {t₀ u₀
     pub parts-stop : {j p : ℕ} {t′ u′ : List ℕ} → r ≡ F.No j p → FormsMet first cell t₀ u₀ (S.No j p) t′ u′ (partsAt s from room)
     parts-stop {j} {p} e = row-no partsAt w j p (part-then ∙ ap (λ (g : Got Form). andThen g (λ f e. afterParts s f e (λ a. partsAt s a room))) (form-no m e))
 
-    module _ {x : Upto} {p : ℕ} (e : r ≡ F.Got x) (i : Skipped s (x .next) p) where
-      pub parts-place-fits : Fits w64 (p + 1)
-      parts-place-fits = let z = part-after room (w .ready) m e in record { fits = omega (arith, z .ready .short, z .ready .inside, i .high) }
+    module _ {x : Upto} (e : r ≡ F.Got x) where
+      pub parts-dot-requires : x .next ≤ length s
+      parts-dot-requires = part-after room (w .ready) m e .ready .inside
 
-      module _ {b : ℕ} (h : b ≡ byteAt s p) where
-        part-here : partsAt s at room ≡ afterParts s (form-got m e .form) (x .next) (λ a. partsAt s a room)
-        part-here = part-then ∙ ap (λ (g : Got Form). andThen g (λ f e. afterParts s f e (λ a. partsAt s a room))) (form-got m e .is)
+      part-here : partsAt s at room ≡ afterParts s (form-got m e .form) (x .next) (λ a. partsAt s a room)
+      part-here = part-then ∙ ap (λ (g : Got Form). andThen g (λ f e. afterParts s f e (λ a. partsAt s a room))) (form-got m e .is)
 
-        pub parts-last : (b ≡ 46 → ⊥) → FormsMet first cell t₀ u₀ (S.Got x (k + 1)) t₁ u₁ (partsAt s from room)
-        parts-last o = row-last partsAt w (form-got m e) (x .next) (part-here ∙ last-part s (x .next) p b (i .is) h (form-got m e .form) (λ a. partsAt s a room) o)
+      module _ {q : DotRead} (i : Dotted s (x .next) q) where
+        pub parts-last : q ≡ D.Nothing → FormsMet first cell t₀ u₀ (S.Got x (k + 1)) t₁ u₁ (partsAt s from room)
+        parts-last o = row-last partsAt w (form-got m e) (x .next) (part-here ∙ last-part s (x .next) (form-got m e .form) (λ a. partsAt s a room) i o)
 
-        pub parts-next : b ≡ 46 → Going partsAt s room from first cell t₀ u₀ (p + 1) (x .forms) (x .cells) (k + 1) t₁ u₁
-        parts-next o =
-            let z = part-after room (w .ready) m e in
-            let v = byte-passed 46 (omega arith) z i h o in
-            let y = z .ready in
-            row-more partsAt w (form-got m e) (p + 1) (part-here ∙ next-part s (x .next) p b (i .is) h (form-got m e .form) (λ a. partsAt s a room) o)
-            (record { short = y .short; inside = v; forms = omega (arith, y .forms, i .low); cells = omega (arith, y .cells, i .low) }) (omega (arith, z .behind, i .low))
+        module _ {a : ℕ} (o : q ≡ D.Dot a) where
+          pub parts-next : Going partsAt s room from first cell t₀ u₀ a (x .forms) (x .cells) (k + 1) t₁ u₁
+          parts-next =
+              let z = part-after room (w .ready) m e in
+              let v = dot-passed i o in
+              let y = z .ready in
+              row-more partsAt w (form-got m e) a (part-here ∙ next-part s (x .next) (form-got m e .form) (λ a. partsAt s a room) i o)
+              (record { short = y .short; inside = v .inside; forms = omega (arith, y .forms, v .behind); cells = omega (arith, y .cells, v .behind) }) (omega (arith, z .behind, v .behind))
 
-        pub parts-less : b ≡ 46 → length s - (p + 1) < length s - at
-        parts-less o =
-            let z = part-after room (w .ready) m e in
-            let v = byte-passed 46 (omega arith) z i h o in
-            omega (arith, z .behind, i .low)
+          pub parts-less : length s - a < length s - at
+          parts-less = let z = part-after room (w .ready) m e in let v = dot-passed i o in omega (arith, z .behind, v .behind, v .inside)
 
 -- ---- read_forms
 module _ (s : List ℕ) (room : ℕ) {from first cell at n c k : ℕ} {t₀ u₀ t u : List ℕ} (w : Going formsAt s room from first cell t₀ u₀ at n c k t u) where
-  pub forms-form-requires : {j : ℕ} → 5 * (length s - from) + 2 ≡ j → (5 * (length s - at) + 1 < j) × Ready s at n c
-  forms-form-requires z = (omega (arith, w .onward), w .ready)
+  pub forms-below : {j : ℕ} → 5 * (length s - from) + 2 ≡ j → 5 * (length s - at) + 1 < j
+  forms-below z = omega (arith, w .onward)
 
   pub forms-count-fits : Fits w32 (k + 1)
   forms-count-fits = record { fits = omega (arith, w .few, w .ready .inside, w .ready .short) }

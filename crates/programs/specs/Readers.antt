@@ -66,10 +66,20 @@ chainAt s at room f = andThen (partsAt s at room) (λ fs e. got (chain (f & fs))
 unfoldable pub whileAt : List ℕ → ℕ → ℕ → Form → Got Form
 whileAt s at room p = andThen (closedAt s at room) (λ f e. got (while p f) e)
 
--- behind `(p->`
+-- the two forms behind `(p->`
+pub record Branches : Type 0 where
+  pub yes : Form
+  pub no : Form
+
+abbrev pub both : Form → Form → Branches
+both f g = record { yes = f; no = g }
+
+unfoldable pub branchesAt : List ℕ → ℕ → ℕ → Got Branches
+branchesAt s at room =
+    andThen (formAt s at room) (λ f e. mark (code ";") s e (λ a. andThen (closedAt s a room) (λ g e. got (both f g) e)))
+
 unfoldable pub conditionAt : List ℕ → ℕ → ℕ → Form → Got Form
-conditionAt s at room p =
-    andThen (formAt s at room) (λ f e. mark (code ";") s e (λ a. andThen (closedAt s a room) (λ g e. got (condition p f g) e)))
+conditionAt s at room p = andThen (branchesAt s at room) (λ b e. got (condition p (b .yes) (b .no)) e)
 
 -- the marks that a part may begin with
 abbrev pub isOpening : ℕ → Bool

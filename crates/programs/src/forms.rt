@@ -1,19 +1,21 @@
 // Forms and parts, which hold each other: each is read to the records from n on, its constants to the cells from c on. A form's
 // record stands before those of its parts. Readers call each other only where marks nest; parts and forms in a row are loops.
 ghost use Prim.Native.Nat.{_+_, _≤_};
-ghost use Rattle.programs.specs.Readers.{formAt, partsAt, partAt, formsAt, prefixAt, constructAt, buAt, roundAt, closedAt, chainAt, whileAt, conditionAt};
-ghost use Rattle.programs.specs.Readings.{Ready, FormMet, FormsMet, Continued};
+ghost use Rattle.programs.specs.Readers.{formAt, partsAt, partAt, formsAt, prefixAt, constructAt, buAt, roundAt, closedAt, chainAt, whileAt, branchesAt, conditionAt};
+ghost use Rattle.programs.specs.Readings.{Ready, FormMet, FormsMet, BranchesMet, Continued};
 
 use super::marks;
 use super::plain;
+use super::DotRead;
 use super::FormRead;
 use super::FormsRead;
 use super::MarkRead;
+use super::TestRead;
 use super::Upto;
 use objects::ObjectRead;
 
 // One part, or several joined by dots. `room` more marks may open.
-pub fn read_form(s: &[u8], at: usize, room: u32, t: &mut [u32], n: usize, u: &mut [u32], c: usize) -> FormRead
+pub fn read_form(s: &[u8], at: usize, room: u32, t: &mut [u32], n: usize, u: &mut [u32], c: u32) -> FormRead
     requires { ⌜ Ready (now s) at n c ⌝ }
     ensures { λ r. ⌜ FormMet n c (now (t .entry)) (now (u .entry)) r (now (t .exit)) (now (u .exit)) (formAt (now (s .entry)) at room) ⌝ }
 {
@@ -24,15 +26,14 @@ pub fn read_form(s: &[u8], at: usize, room: u32, t: &mut [u32], n: usize, u: &mu
     let e = x.next;
     let m = x.forms;
     let d = x.cells;
-    let p = lexer::skip_blanks(s, e);
-    if lexer::byte_at(s, p) != b'.' {
-        return FormRead::Got(x);
+    match marks::read_dot(s, e) {
+        DotRead::Nothing => FormRead::Got(x),
+        DotRead::Dot(a) => read_chain(s, a, room, t, n, m, u, d),
     }
-    read_chain(s, p + 1, room, t, n, m, u, d)
 }
 
 // Behind the first dot: the first part's records, from n up to m, move up for the chain's record.
-fn read_chain(s: &[u8], at: usize, room: u32, t: &mut [u32], n: usize, m: usize, u: &mut [u32], c: usize) -> FormRead
+fn read_chain(s: &[u8], at: usize, room: u32, t: &mut [u32], n: usize, m: usize, u: &mut [u32], c: u32) -> FormRead
     requires { ⌜ Ready (now s) at (m + 1) c ⌝ }
     ensures { λ r. ⌜ Continued (chainAt (now (s .entry)) at room) n m c (now (t .entry)) (now (u .entry)) r (now (t .exit)) (now (u .exit)) ⌝ }
 {
@@ -47,7 +48,7 @@ fn read_chain(s: &[u8], at: usize, room: u32, t: &mut [u32], n: usize, m: usize,
 }
 
 // Parts joined by dots.
-fn read_parts(s: &[u8], from: usize, room: u32, t: &mut [u32], first: usize, u: &mut [u32], cell: usize) -> FormsRead
+fn read_parts(s: &[u8], from: usize, room: u32, t: &mut [u32], first: usize, u: &mut [u32], cell: u32) -> FormsRead
     requires { ⌜ Ready (now s) from first cell ⌝ }
     ensures { λ r. ⌜ FormsMet first cell (now (t .entry)) (now (u .entry)) r (now (t .exit)) (now (u .exit)) (partsAt (now (s .entry)) from room) ⌝ }
 {
@@ -62,18 +63,17 @@ fn read_parts(s: &[u8], from: usize, room: u32, t: &mut [u32], first: usize, u: 
         };
         count += 1;
         let e = x.next;
-        let p = lexer::skip_blanks(s, e);
-        if lexer::byte_at(s, p) != b'.' {
-            return FormsRead::Got(x, count);
+        match marks::read_dot(s, e) {
+            DotRead::Nothing => return FormsRead::Got(x, count),
+            DotRead::Dot(a) => at = a,
         }
-        at = p + 1;
         n = x.forms;
         c = x.cells;
     }
 }
 
 // A word, a name, or what begins with a mark that opens.
-fn read_part(s: &[u8], at: usize, room: u32, t: &mut [u32], n: usize, u: &mut [u32], c: usize) -> FormRead
+fn read_part(s: &[u8], at: usize, room: u32, t: &mut [u32], n: usize, u: &mut [u32], c: u32) -> FormRead
     requires { ⌜ Ready (now s) at n c ⌝ }
     ensures { λ r. ⌜ FormMet n c (now (t .entry)) (now (u .entry)) r (now (t .exit)) (now (u .exit)) (partAt (now (s .entry)) at room) ⌝ }
 {
@@ -96,7 +96,7 @@ fn read_part(s: &[u8], at: usize, room: u32, t: &mut [u32], n: usize, u: &mut [u
 }
 
 // Behind a `[`: forms, and the `]`.
-fn read_construct(s: &[u8], at: usize, room: u32, t: &mut [u32], n: usize, u: &mut [u32], c: usize) -> FormRead
+fn read_construct(s: &[u8], at: usize, room: u32, t: &mut [u32], n: usize, u: &mut [u32], c: u32) -> FormRead
     requires { ⌜ Ready (now s) at (n + 1) c ⌝ }
     ensures { λ r. ⌜ FormMet n c (now (t .entry)) (now (u .entry)) r (now (t .exit)) (now (u .exit)) (constructAt (now (s .entry)) at room) ⌝ }
 {
@@ -110,7 +110,7 @@ fn read_construct(s: &[u8], at: usize, room: u32, t: &mut [u32], n: usize, u: &m
 }
 
 // Forms with commas between, and the `]`.
-fn read_forms(s: &[u8], from: usize, room: u32, t: &mut [u32], first: usize, u: &mut [u32], cell: usize) -> FormsRead
+fn read_forms(s: &[u8], from: usize, room: u32, t: &mut [u32], first: usize, u: &mut [u32], cell: u32) -> FormsRead
     requires { ⌜ Ready (now s) from first cell ⌝ }
     ensures { λ r. ⌜ FormsMet first cell (now (t .entry)) (now (u .entry)) r (now (t .exit)) (now (u .exit)) (formsAt (now (s .entry)) from room) ⌝ }
 {
@@ -140,7 +140,7 @@ fn read_forms(s: &[u8], from: usize, room: u32, t: &mut [u32], first: usize, u: 
 }
 
 // Behind a `/` (kind 7) or an `@` (kind 8): a part.
-fn read_prefix(kind: u32, s: &[u8], at: usize, room: u32, t: &mut [u32], n: usize, u: &mut [u32], c: usize) -> FormRead
+fn read_prefix(kind: u32, s: &[u8], at: usize, room: u32, t: &mut [u32], n: usize, u: &mut [u32], c: u32) -> FormRead
     requires { ⌜ Ready (now s) at (n + 1) c × (7 ≤ kind) × (kind ≤ 8) ⌝ }
     ensures { λ r. ⌜ FormMet n c (now (t .entry)) (now (u .entry)) r (now (t .exit)) (now (u .exit)) (prefixAt kind (now (s .entry)) at room) ⌝ }
 {
@@ -154,7 +154,7 @@ fn read_prefix(kind: u32, s: &[u8], at: usize, room: u32, t: &mut [u32], n: usiz
 }
 
 // Behind a `{`: a part, a comma, an object and the `}`.
-fn read_bu(s: &[u8], at: usize, room: u32, t: &mut [u32], n: usize, u: &mut [u32], c: usize) -> FormRead
+fn read_bu(s: &[u8], at: usize, room: u32, t: &mut [u32], n: usize, u: &mut [u32], c: u32) -> FormRead
     requires { ⌜ Ready (now s) at (n + 1) c ⌝ }
     ensures { λ r. ⌜ FormMet n c (now (t .entry)) (now (u .entry)) r (now (t .exit)) (now (u .exit)) (buAt (now (s .entry)) at room) ⌝ }
 {
@@ -165,15 +165,14 @@ fn read_bu(s: &[u8], at: usize, room: u32, t: &mut [u32], n: usize, u: &mut [u32
     let e = x.next;
     let m = x.forms;
     let d = x.cells;
-    let y = match plain::read_bound(s, e, room, u, d) {
-        ObjectRead::No(number, place) => return FormRead::No(number, place),
-        ObjectRead::Got(y) => y,
-    };
-    plain::put_bu(t, n, m, y)
+    match plain::read_bound(s, e, room, u, d) {
+        ObjectRead::No(number, place) => FormRead::No(number, place),
+        ObjectRead::Got(v, next, cells) => plain::put_bu(t, n, m, v, next, cells),
+    }
 }
 
 // Behind a `(`: a form and the `)`, or a condition or a loop that begins with it.
-fn read_round(s: &[u8], at: usize, room: u32, t: &mut [u32], n: usize, u: &mut [u32], c: usize) -> FormRead
+fn read_round(s: &[u8], at: usize, room: u32, t: &mut [u32], n: usize, u: &mut [u32], c: u32) -> FormRead
     requires { ⌜ Ready (now s) at (n + 1) c ⌝ }
     ensures { λ r. ⌜ FormMet n c (now (t .entry)) (now (u .entry)) r (now (t .exit)) (now (u .exit)) (roundAt (now (s .entry)) at room) ⌝ }
 {
@@ -184,22 +183,16 @@ fn read_round(s: &[u8], at: usize, room: u32, t: &mut [u32], n: usize, u: &mut [
     let e = x.next;
     let m = x.forms;
     let d = x.cells;
-    let p = lexer::skip_blanks(s, e);
-    if marks::is_arrow(s, p) {
-        return read_condition(s, p + 2, room, t, n, m, u, d);
+    match marks::read_test(s, e) {
+        TestRead::Closed(next) => FormRead::Got(Upto { next, forms: m, cells: d }),
+        TestRead::While(a) => read_while(s, a, room, t, n, m, u, d),
+        TestRead::Condition(a) => read_condition(s, a, room, t, n, m, u, d),
+        TestRead::No(number, place) => FormRead::No(number, place),
     }
-    let b = lexer::byte_at(s, p);
-    if b == b'?' {
-        return read_while(s, p + 1, room, t, n, m, u, d);
-    }
-    if b != b')' {
-        return FormRead::No(lexer::refusal(s, p), p);
-    }
-    FormRead::Got(Upto { next: p + 1, forms: m, cells: d })
 }
 
 // A form and the `)` behind it.
-fn read_closed(s: &[u8], at: usize, room: u32, t: &mut [u32], n: usize, u: &mut [u32], c: usize) -> FormRead
+fn read_closed(s: &[u8], at: usize, room: u32, t: &mut [u32], n: usize, u: &mut [u32], c: u32) -> FormRead
     requires { ⌜ Ready (now s) at n c ⌝ }
     ensures { λ r. ⌜ FormMet n c (now (t .entry)) (now (u .entry)) r (now (t .exit)) (now (u .exit)) (closedAt (now (s .entry)) at room) ⌝ }
 {
@@ -217,7 +210,7 @@ fn read_closed(s: &[u8], at: usize, room: u32, t: &mut [u32], n: usize, u: &mut 
 }
 
 // Behind `(p?`: the loop's form and the `)`. The records of p, from n up to m, move up for the loop's record.
-fn read_while(s: &[u8], at: usize, room: u32, t: &mut [u32], n: usize, m: usize, u: &mut [u32], c: usize) -> FormRead
+fn read_while(s: &[u8], at: usize, room: u32, t: &mut [u32], n: usize, m: usize, u: &mut [u32], c: u32) -> FormRead
     requires { ⌜ Ready (now s) at (m + 1) c ⌝ }
     ensures { λ r. ⌜ Continued (whileAt (now (s .entry)) at room) n m c (now (t .entry)) (now (u .entry)) r (now (t .exit)) (now (u .exit)) ⌝ }
 {
@@ -231,28 +224,35 @@ fn read_while(s: &[u8], at: usize, room: u32, t: &mut [u32], n: usize, m: usize,
     }
 }
 
-// Behind `(p->`: two forms with a `;` between, and the `)`. The records of p, from n up to m, move up for the condition's record.
-fn read_condition(s: &[u8], at: usize, room: u32, t: &mut [u32], n: usize, m: usize, u: &mut [u32], c: usize) -> FormRead
+// Behind `(p->`: two forms. The records of p, from n up to m, move up for the condition's record.
+fn read_condition(s: &[u8], at: usize, room: u32, t: &mut [u32], n: usize, m: usize, u: &mut [u32], c: u32) -> FormRead
     requires { ⌜ Ready (now s) at (m + 1) c ⌝ }
     ensures { λ r. ⌜ Continued (conditionAt (now (s .entry)) at room) n m c (now (t .entry)) (now (u .entry)) r (now (t .exit)) (now (u .exit)) ⌝ }
 {
     tables::shift_up(t, n, m);
-    let x = match read_form(s, at, room, t, m + 1, u, c) {
+    match read_branches(s, at, room, t, m + 1, u, c) {
+        FormRead::No(number, place) => FormRead::No(number, place),
+        FormRead::Got(x) => {
+            tables::put_record(t, n, 9, 3, 0, 0);
+            FormRead::Got(x)
+        }
+    }
+}
+
+// Two forms with a `;` between, and the `)`.
+fn read_branches(s: &[u8], at: usize, room: u32, t: &mut [u32], n: usize, u: &mut [u32], c: u32) -> FormRead
+    requires { ⌜ Ready (now s) at n c ⌝ }
+    ensures { λ r. ⌜ BranchesMet n c (now (t .entry)) (now (u .entry)) r (now (t .exit)) (now (u .exit)) (branchesAt (now (s .entry)) at room) ⌝ }
+{
+    let x = match read_form(s, at, room, t, n, u, c) {
         FormRead::No(number, place) => return FormRead::No(number, place),
         FormRead::Got(x) => x,
     };
     let e = x.next;
-    let f = x.forms;
+    let m = x.forms;
     let d = x.cells;
-    let a = match marks::read_mark(s, e, b';') {
-        MarkRead::No(number, place) => return FormRead::No(number, place),
-        MarkRead::Got(a) => a,
-    };
-    match read_closed(s, a, room, t, f, u, d) {
-        FormRead::No(number, place) => FormRead::No(number, place),
-        FormRead::Got(y) => {
-            tables::put_record(t, n, 9, 3, 0, 0);
-            FormRead::Got(y)
-        }
+    match marks::read_mark(s, e, b';') {
+        MarkRead::No(number, place) => FormRead::No(number, place),
+        MarkRead::Got(a) => read_closed(s, a, room, t, m, u, d),
     }
 }

@@ -9,12 +9,27 @@ pub use forms::read_form;
 pub struct Upto {
     pub next: usize,
     pub forms: usize,
-    pub cells: usize,
+    pub cells: u32,
 }
 
 // The place behind a mark; or a refusal's number and place.
 pub enum MarkRead {
     Got(usize),
+    No(u32, usize),
+}
+
+// Whether a dot follows a part: the place behind it.
+pub enum DotRead {
+    Dot(usize),
+    Nothing,
+}
+
+// What follows the first form in `( )`, with the place behind it: the `)`, the `?` of a loop, the `->` of a condition; or
+// a refusal's number and place.
+pub enum TestRead {
+    Closed(usize),
+    While(usize),
+    Condition(usize),
     No(u32, usize),
 }
 

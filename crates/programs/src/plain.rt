@@ -9,12 +9,12 @@ use super::marks;
 use super::FormRead;
 use super::MarkRead;
 use super::Upto;
+use language::Val;
 use lexer::PartJudged;
-use objects::ObjectAt;
 use objects::ObjectRead;
 
 // Writes record n of a form without parts, whose text ends before `next`.
-fn put_plain(t: &mut [u32], n: usize, kind: u32, word: u64, next: usize, c: usize) -> FormRead
+fn put_plain(t: &mut [u32], n: usize, kind: u32, word: u64, next: usize, c: u32) -> FormRead
     requires { ⌜ n ≤ 8192 ⌝ }
     ensures { λ r. ⌜ PlainPut n c next kind word (now (t .entry)) r (now (t .exit)) ⌝ }
 {
@@ -22,21 +22,18 @@ fn put_plain(t: &mut [u32], n: usize, kind: u32, word: u64, next: usize, c: usiz
     FormRead::Got(Upto { next, forms: n + 1, cells: c })
 }
 
-// Writes record n of `{f,x}`, where the records of f go up to m and x was read.
-pub fn put_bu(t: &mut [u32], n: usize, m: usize, x: ObjectAt) -> FormRead
-    requires { ⌜ x .value .tag < 4 ⌝ }
-    ensures { λ r. ⌜ BuPut n m x (now (t .entry)) r (now (t .exit)) ⌝ }
+// Writes record n of `{f,x}`, where the records of f go up to m, v stands for x and the text ends before `next`.
+pub fn put_bu(t: &mut [u32], n: usize, m: usize, v: Val, next: usize, c: u32) -> FormRead
+    requires { ⌜ v .tag < 4 ⌝ }
+    ensures { λ r. ⌜ BuPut n m c next v (now (t .entry)) r (now (t .exit)) ⌝ }
 {
-    let v = x.value;
     let word = v.word;
-    let next = x.next;
-    let cells = x.cells;
     tables::put_record(t, n, 16 + v.tag, 1, (word % 4294967296) as u32, (word / 4294967296) as u32);
-    FormRead::Got(Upto { next, forms: m, cells })
+    FormRead::Got(Upto { next, forms: m, cells: c })
 }
 
 // A primitive word, a selector or a name at p, as record n.
-pub fn read_plain(s: &[u8], p: usize, t: &mut [u32], n: usize, c: usize) -> FormRead
+pub fn read_plain(s: &[u8], p: usize, t: &mut [u32], n: usize, c: u32) -> FormRead
     requires { ⌜ (p ≤ length (now s)) × (n ≤ 8192) ⌝ }
     ensures { λ r. ⌜ PlainMet (now (s .entry)) p n c (now (t .entry)) r (now (t .exit)) ⌝ }
 {
@@ -51,22 +48,18 @@ pub fn read_plain(s: &[u8], p: usize, t: &mut [u32], n: usize, c: usize) -> Form
 }
 
 // Behind a `%`: the object is read to the cells from c on, its value to record n.
-pub fn read_constant(s: &[u8], at: usize, room: u32, t: &mut [u32], n: usize, u: &mut [u32], c: usize) -> FormRead
+pub fn read_constant(s: &[u8], at: usize, room: u32, t: &mut [u32], n: usize, u: &mut [u32], c: u32) -> FormRead
     requires { ⌜ Ready (now s) at (n + 1) c ⌝ }
     ensures { λ r. ⌜ FormMet n c (now (t .entry)) (now (u .entry)) r (now (t .exit)) (now (u .exit)) (constantAt (now (s .entry)) at room) ⌝ }
 {
-    let x = match objects::read_object(s, at, room, u, c) {
-        ObjectRead::No(number, place) => return FormRead::No(number, place),
-        ObjectRead::Got(x) => x,
-    };
-    let v = x.value;
-    let next = x.next;
-    let d = x.cells;
-    put_plain(t, n, 12 + v.tag, v.word, next, d)
+    match objects::read_object(s, at, room, u, c) {
+        ObjectRead::No(number, place) => FormRead::No(number, place),
+        ObjectRead::Got(v, next, d) => put_plain(t, n, 12 + v.tag, v.word, next, d),
+    }
 }
 
 // Behind the form of `{f,x}`: the comma, the object, which is read to the cells from c on, and the `}`.
-pub fn read_bound(s: &[u8], at: usize, room: u32, u: &mut [u32], c: usize) -> ObjectRead
+pub fn read_bound(s: &[u8], at: usize, room: u32, u: &mut [u32], c: u32) -> ObjectRead
     requires { ⌜ Ready (now s) at 0 c ⌝ }
     ensures { λ r. ⌜ ObjectMet c (now (u .entry)) r (now (u .exit)) (boundAt (now (s .entry)) at room) ⌝ }
 {
@@ -74,16 +67,11 @@ pub fn read_bound(s: &[u8], at: usize, room: u32, u: &mut [u32], c: usize) -> Ob
         MarkRead::No(number, place) => return ObjectRead::No(number, place),
         MarkRead::Got(a) => a,
     };
-    let x = match objects::read_object(s, a, room, u, c) {
-        ObjectRead::No(number, place) => return ObjectRead::No(number, place),
-        ObjectRead::Got(x) => x,
-    };
-    let e = x.next;
-    let next = match marks::read_mark(s, e, b'}') {
-        MarkRead::No(number, place) => return ObjectRead::No(number, place),
-        MarkRead::Got(next) => next,
-    };
-    let value = x.value;
-    let cells = x.cells;
-    ObjectRead::Got(ObjectAt { value, next, cells })
+    match objects::read_object(s, a, room, u, c) {
+        ObjectRead::No(number, place) => ObjectRead::No(number, place),
+        ObjectRead::Got(v, e, d) => match marks::read_mark(s, e, b'}') {
+            MarkRead::No(number, place) => ObjectRead::No(number, place),
+            MarkRead::Got(next) => ObjectRead::Got(v, next, d),
+        },
+    }
 }

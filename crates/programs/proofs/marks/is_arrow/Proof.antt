@@ -1,5 +1,7 @@
+-- `is_arrow` gives the test of its name. Assumes nothing.
 use native.Mathlib.Omega.{arith}
 use borrow.Author.Needs.{needs}
+use Rattle.programs.proofs.Plains.{arrow-none, arrow-half}
 use Rattle.programs.proofs.marks.is_arrow.Statement.{statement}
 use Rattle.programs.proofs.marks.is_arrow.Tie as tie
 use Rattle.programs.proofs.marks.is_arrow.Reads as reads
@@ -12,7 +14,7 @@ byte-at-requires c κs = search needs
 
 -- return false;
 returns : tie.Need-returns
-returns c = ?
+returns c = search arrow-none
 
 -- lexer::byte_at(s, p + 1) == b'>'
 add-byte-at : tie.Need-add-byte-at
@@ -24,7 +26,7 @@ byte-at-requires-2 c κs = search needs
 
 -- pub fn is_arrow(s: &[u8], p: usize) -> bool
 returns-2 : tie.Need-returns-2
-returns-2 c = ?
+returns-2 c = search arrow-half
 
 pub is-arrow-spec : {M : Type 1} → statement M
 is-arrow-spec =

@@ -1,5 +1,7 @@
+-- `read_mark` reads the mark, or refuses what stands there. Assumes nothing.
 use native.Mathlib.Omega.{arith}
 use borrow.Author.Needs.{needs}
+use Rattle.programs.proofs.Plains.{mark-is, mark-other}
 use Rattle.programs.proofs.marks.read_mark.Statement.{statement}
 use Rattle.programs.proofs.marks.read_mark.Tie as tie
 use Rattle.programs.proofs.marks.read_mark.Reads as reads
@@ -22,7 +24,7 @@ refusal-requires c κs = search needs
 
 -- return MarkRead::No(lexer::refusal(s, p), p);
 returns : tie.Need-returns
-returns c = ?
+returns c = search mark-other
 
 -- MarkRead::Got(p + 1)
 add-t8 : tie.Need-add-t8
@@ -30,7 +32,7 @@ add-t8 c = search needs
 
 -- pub fn read_mark(s: &[u8], at: usize, b: u8) -> MarkRead
 returns-2 : tie.Need-returns-2
-returns-2 c = ?
+returns-2 c = search mark-is
 
 pub read-mark-spec : {M : Type 1} → statement M
 read-mark-spec =

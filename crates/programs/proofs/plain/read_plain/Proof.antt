@@ -1,5 +1,7 @@
+-- `read_plain` reads a word or a name to a record. Assumes nothing.
 use native.Mathlib.Omega.{arith}
 use borrow.Author.Needs.{needs}
+use Rattle.programs.proofs.Plains.{plain-op, plain-select, plain-right, plain-name, plain-not}
 use Rattle.programs.proofs.plain.read_plain.Statement.{statement}
 use Rattle.programs.proofs.plain.read_plain.Tie as tie
 use Rattle.programs.proofs.plain.read_plain.Reads as reads
@@ -80,41 +82,41 @@ put-plain-requires-4 c κs = search needs
 enum-known-number : tie.Need-enum-known-number
 enum-known-number c = search needs
 
--- pub fn read_plain(s: &[u8], p: usize, t: &mut [u32], n: usize, c: usize) -> FormRead
+-- pub fn read_plain(s: &[u8], p: usize, t: &mut [u32], n: usize, c: u32) -> FormRead
 same-length : tie.Need-same-length
 same-length c = search needs
 
--- pub fn read_plain(s: &[u8], p: usize, t: &mut [u32], n: usize, c: usize) -> FormRead
+-- pub fn read_plain(s: &[u8], p: usize, t: &mut [u32], n: usize, c: u32) -> FormRead
 returns : tie.Need-returns
-returns c = ?
+returns c = search plain-op
 
--- pub fn read_plain(s: &[u8], p: usize, t: &mut [u32], n: usize, c: usize) -> FormRead
+-- pub fn read_plain(s: &[u8], p: usize, t: &mut [u32], n: usize, c: u32) -> FormRead
 same-length-2 : tie.Need-same-length-2
 same-length-2 c = search needs
 
--- pub fn read_plain(s: &[u8], p: usize, t: &mut [u32], n: usize, c: usize) -> FormRead
+-- pub fn read_plain(s: &[u8], p: usize, t: &mut [u32], n: usize, c: u32) -> FormRead
 returns-2 : tie.Need-returns-2
-returns-2 c = ?
+returns-2 c = search plain-select
 
--- pub fn read_plain(s: &[u8], p: usize, t: &mut [u32], n: usize, c: usize) -> FormRead
+-- pub fn read_plain(s: &[u8], p: usize, t: &mut [u32], n: usize, c: u32) -> FormRead
 same-length-3 : tie.Need-same-length-3
 same-length-3 c = search needs
 
--- pub fn read_plain(s: &[u8], p: usize, t: &mut [u32], n: usize, c: usize) -> FormRead
+-- pub fn read_plain(s: &[u8], p: usize, t: &mut [u32], n: usize, c: u32) -> FormRead
 returns-3 : tie.Need-returns-3
-returns-3 c = ?
+returns-3 c = search plain-right
 
--- pub fn read_plain(s: &[u8], p: usize, t: &mut [u32], n: usize, c: usize) -> FormRead
+-- pub fn read_plain(s: &[u8], p: usize, t: &mut [u32], n: usize, c: u32) -> FormRead
 same-length-4 : tie.Need-same-length-4
 same-length-4 c = search needs
 
--- pub fn read_plain(s: &[u8], p: usize, t: &mut [u32], n: usize, c: usize) -> FormRead
+-- pub fn read_plain(s: &[u8], p: usize, t: &mut [u32], n: usize, c: u32) -> FormRead
 returns-4 : tie.Need-returns-4
-returns-4 c = ?
+returns-4 c = search plain-name
 
--- pub fn read_plain(s: &[u8], p: usize, t: &mut [u32], n: usize, c: usize) -> FormRead
+-- pub fn read_plain(s: &[u8], p: usize, t: &mut [u32], n: usize, c: u32) -> FormRead
 returns-5 : tie.Need-returns-5
-returns-5 c = ?
+returns-5 c = search plain-not
 
 pub read-plain-spec : {M : Type 1} → statement M
 read-plain-spec =
