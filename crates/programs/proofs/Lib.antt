@@ -7,3 +7,7 @@ pub mod Rows
 pub mod Parts
 pub mod Rounds
 pub mod Plains
+pub mod Bodies
+pub mod Defining
+pub mod Naming
+pub mod Programs

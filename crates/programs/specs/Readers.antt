@@ -7,8 +7,8 @@ use lib.Dec.{eqb}
 use Rattle.language.specs.Objects.{Obj}
 use Rattle.language.specs.Forms.{Form, chain, construct, constant, insert, applyAll, bu, condition, while, Forms, _&_}
 use Rattle.language.specs.Tokens.{byteAt, placeFrom}
-use Rattle.language.specs.Judging.{judgePart}
-use Rattle.language.specs.Reading.{Got, got, andThen, wordAt, asJudged, mark, afterTest, calls, readObj, readForm, readParts, readForms, readPart}
+use Rattle.language.specs.Judging.{judgePart, judgeName}
+use Rattle.language.specs.Reading.{Got, got, andThen, wordAt, asJudged, mark, afterTest, calls, readObj, readForm, readParts, readForms, readPart, markLimit, Placed, readDefinitions}
 
 unfoldable pub objectAt : List ℕ → ℕ → ℕ → Got Obj
 objectAt s at room = readObj (calls s) s at room
@@ -80,6 +80,21 @@ branchesAt s at room =
 
 unfoldable pub conditionAt : List ℕ → ℕ → ℕ → Form → Got Form
 conditionAt s at room p = andThen (branchesAt s at room) (λ b e. got (condition p (b .yes) (b .no)) e)
+
+-- ---- definitions
+-- behind a name: the `=`, the form and the `;`
+unfoldable pub bodyAt : List ℕ → ℕ → Got Form
+bodyAt s at = mark (code "=") s at (λ a. andThen (formAt s a markLimit) (λ f e. mark (code ";") s e (λ a. got f a)))
+
+abbrev pub placed : ℕ → List ℕ → Form → Placed
+placed p w f = record { place = p; def = record { called = w; body = f } }
+
+-- the definition whose name is at p
+unfoldable pub placedAt : List ℕ → ℕ → Got Placed
+placedAt s p = andThen (asJudged s p (judgeName (wordAt s p))) (λ w e. andThen (bodyAt s e) (λ f e. got (placed p w f) e))
+
+unfoldable pub definitionsAt : List ℕ → ℕ → Got (List Placed)
+definitionsAt s at = readDefinitions (calls s) s at
 
 -- the marks that a part may begin with
 abbrev pub isOpening : ℕ → Bool
