@@ -25,18 +25,19 @@ use Rattle.lexer.specs.declared.NameJudged.the-variants as N
 use Rattle.formtable.specs.Encoding.{lowOf, highOf, encodeForm, constantsFrom, encodeDefinitions}
 use Rattle.formtable.proofs.Lengths.{length-form, length-constants}
 use Rattle.objects.proofs.Symbols.{packed-is}
-use Rattle.programs.specs.declared.Upto.{Upto}
-use Rattle.programs.specs.declared.MarkRead.{MarkRead}
-use Rattle.programs.specs.declared.MarkRead.the-variants as M
-use Rattle.programs.specs.declared.FormRead.{FormRead}
-use Rattle.programs.specs.declared.FormRead.the-variants as F
-use Rattle.programs.specs.Readers.{formAt, bodyAt, placed, placedAt, definitionsAt}
-use Rattle.programs.specs.Readings.{Ready, Marked, Run, Laid, FormLaid, FormMet, form-read, form-refused}
+use Rattle.forms.specs.declared.Upto.{Upto}
+use Rattle.forms.specs.declared.MarkRead.{MarkRead}
+use Rattle.forms.specs.declared.MarkRead.the-variants as M
+use Rattle.forms.specs.declared.FormRead.{FormRead}
+use Rattle.forms.specs.declared.FormRead.the-variants as F
+use Rattle.forms.specs.Readers.{formAt}
+use Rattle.programs.specs.Bodies.{bodyAt, placed, placedAt, definitionsAt}
+use Rattle.forms.specs.Readings.{Ready, Marked, Run, Laid, FormLaid, FormMet, form-read, form-refused}
 use Rattle.programs.specs.Definitions.{DefinitionPut, PlacedMet, placed-read, placed-refused}
-use Rattle.programs.proofs.Laying.{run-record}
-use Rattle.programs.proofs.Small.{Small, form-small}
-use Rattle.programs.proofs.Equations.{mark-same, mark-then, wrap}
-use Rattle.programs.proofs.Answers.{GotForm, form-got, form-no, mark-got, mark-no, mark-passed, After, form-after}
+use Rattle.forms.proofs.Laying.{run-record}
+use Rattle.forms.proofs.Small.{Small, form-small}
+use Rattle.forms.proofs.Equations.{mark-same, mark-then, wrap}
+use Rattle.forms.proofs.Answers.{GotForm, form-got, form-no, mark-got, mark-no, mark-passed, After, form-after}
 
 -- ---- read_body
 module _ (s : List ℕ) (at : ℕ) {q : MarkRead} (i : Marked 61 s at q) where

@@ -20,18 +20,18 @@ use Rattle.lexer.specs.Readings.{Skipped}
 use Rattle.formtable.specs.Encoding.{encodeForm, constantsFrom, encodeProgram, programConstants, encodeDefinitions}
 use Rattle.formtable.proofs.Lengths.{length-program, length-program-constants}
 use Rattle.formtable.proofs.Appended.{programs-appended, program-constants-appended, definitions-appended}
-use Rattle.programs.specs.declared.Upto.{Upto}
-use Rattle.programs.specs.declared.FormRead.{FormRead}
-use Rattle.programs.specs.declared.FormRead.the-variants as F
+use Rattle.forms.specs.declared.Upto.{Upto}
+use Rattle.forms.specs.declared.FormRead.{FormRead}
+use Rattle.forms.specs.declared.FormRead.the-variants as F
 use Rattle.programs.specs.declared.DefinitionsRead.{DefinitionsRead}
 use Rattle.programs.specs.declared.DefinitionsRead.the-variants as D
-use Rattle.programs.specs.Readers.{placedAt, definitionsAt}
-use Rattle.programs.specs.Readings.{Ready, Run, Laid}
+use Rattle.programs.specs.Bodies.{placedAt, definitionsAt}
+use Rattle.forms.specs.Readings.{Ready, Run, Laid}
 use Rattle.programs.specs.Definitions.{programOf, AllNamed, none-named, more-named, PlacedMet, DefinitionsMet, definitions-read, definitions-refused}
-use Rattle.programs.proofs.Laying.{run-none, run-then, run-as}
-use Rattle.programs.proofs.Equations.{then-got}
+use Rattle.forms.proofs.Laying.{run-none, run-then, run-as}
+use Rattle.forms.proofs.Equations.{then-got}
 use Rattle.programs.proofs.Bodies.{GotPlaced, placed-got, placed-no, definitions-are, definition-after}
-use Rattle.programs.proofs.Answers.{After}
+use Rattle.forms.proofs.Answers.{After}
 
 -- the definitions read so far, k of them; reading goes on at `at`
 pub record Defining (s t₀ u₀ d₀ : List ℕ) (at n c k : ℕ) (t u d : List ℕ) : Type 0 where

@@ -1,12 +1,3 @@
-pub mod Laying
-pub mod Small
-pub mod Equations
-pub mod Answers
-pub mod Chains
-pub mod Rows
-pub mod Parts
-pub mod Rounds
-pub mod Plains
 pub mod Bodies
 pub mod Defining
 pub mod Naming

@@ -18,8 +18,8 @@ use Rattle.programs.specs.declared.TwiceRead.{TwiceRead}
 use Rattle.programs.specs.declared.TwiceRead.the-variants as T
 use Rattle.programs.specs.declared.ProgramRead.{ProgramRead}
 use Rattle.programs.specs.declared.ProgramRead.the-variants as P
-use Rattle.programs.specs.Readers.{definitionsAt}
-use Rattle.programs.specs.Readings.{Run, Laid}
+use Rattle.programs.specs.Bodies.{definitionsAt}
+use Rattle.forms.specs.Readings.{Run, Laid}
 use Rattle.programs.specs.Definitions.{programOf, AllNamed, DefinitionsMet, definitions-read, definitions-refused, Listed, twiceOf, TwiceMet, ProgramLaid, ProgramMet, program-read, program-refused}
 use Rattle.programs.proofs.Naming.{listed-of}
 

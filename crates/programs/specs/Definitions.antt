@@ -11,16 +11,16 @@ use Rattle.language.specs.Packing.{packed}
 use Rattle.language.specs.Reading.{Got, got, no, Placed, isIn, noneTwice, calls, readDefinitions}
 use Rattle.tables.specs.Tables.{put, field, recordPut}
 use Rattle.formtable.specs.Encoding.{lowOf, highOf, encodeProgram, programConstants, encodeDefinitions}
-use Rattle.programs.specs.declared.Upto.{Upto}
-use Rattle.programs.specs.declared.FormRead.{FormRead}
-use Rattle.programs.specs.declared.FormRead.the-variants as F
+use Rattle.forms.specs.declared.Upto.{Upto}
+use Rattle.forms.specs.declared.FormRead.{FormRead}
+use Rattle.forms.specs.declared.FormRead.the-variants as F
 use Rattle.programs.specs.declared.DefinitionsRead.{DefinitionsRead}
 use Rattle.programs.specs.declared.DefinitionsRead.the-variants as D
 use Rattle.programs.specs.declared.TwiceRead.{TwiceRead}
 use Rattle.programs.specs.declared.TwiceRead.the-variants as T
 use Rattle.programs.specs.declared.ProgramRead.{ProgramRead}
 use Rattle.programs.specs.declared.ProgramRead.the-variants as P
-use Rattle.programs.specs.Readings.{Run, Laid, FormLaid}
+use Rattle.forms.specs.Readings.{Run, Laid, FormLaid}
 
 abbrev pub programOf : List Placed → Prog
 programOf ds = map (λ (d : Placed). d .def) ds

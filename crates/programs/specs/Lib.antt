@@ -1,4 +1,3 @@
 -- The definitions that the contracts of programs cite.
-pub mod Readers
-pub mod Readings
+pub mod Bodies
 pub mod Definitions

@@ -4,18 +4,16 @@ ghost use mathlib.Core.Path.{_≡_};
 ghost use Prim.Native.Nat.{_+_, _≤_, _<_};
 ghost use lib.ListN.{length};
 ghost use Rattle.language.specs.Reading.{readProgram};
-ghost use Rattle.programs.specs.Readers.{bodyAt, placedAt, definitionsAt};
-ghost use Rattle.programs.specs.Readings.{Ready, FormMet};
+ghost use Rattle.programs.specs.Bodies.{bodyAt, placedAt, definitionsAt};
+ghost use Rattle.forms.specs.Readings.{Ready, FormMet};
 ghost use Rattle.programs.specs.Definitions.{DefinitionPut, PlacedMet, DefinitionsMet, SameName, Compared, TwiceMet, ProgramMet};
 
-use super::forms;
-use super::marks;
 use super::DefinitionsRead;
-use super::FormRead;
-use super::MarkRead;
 use super::ProgramRead;
 use super::TwiceRead;
-use super::Upto;
+use forms::FormRead;
+use forms::MarkRead;
+use forms::Upto;
 use lexer::NameJudged;
 
 // Behind a name: the `=`, the form and the `;`.
@@ -23,7 +21,7 @@ fn read_body(s: &[u8], at: usize, t: &mut [u32], n: usize, u: &mut [u32], c: u32
     requires { ⌜ Ready (now s) at n c ⌝ }
     ensures { λ r. ⌜ FormMet n c (now (t .entry)) (now (u .entry)) r (now (t .exit)) (now (u .exit)) (bodyAt (now (s .entry)) at) ⌝ }
 {
-    let a = match marks::read_mark(s, at, b'=') {
+    let a = match forms::read_mark(s, at, b'=') {
         MarkRead::No(number, place) => return FormRead::No(number, place),
         MarkRead::Got(a) => a,
     };
@@ -34,7 +32,7 @@ fn read_body(s: &[u8], at: usize, t: &mut [u32], n: usize, u: &mut [u32], c: u32
     let e = x.next;
     let m = x.forms;
     let d = x.cells;
-    match marks::read_mark(s, e, b';') {
+    match forms::read_mark(s, e, b';') {
         MarkRead::No(number, place) => FormRead::No(number, place),
         MarkRead::Got(next) => FormRead::Got(Upto { next, forms: m, cells: d }),
     }

@@ -6,8 +6,8 @@ use Rattle.programs.proofs.definitions.read_body.Statement.{statement}
 use Rattle.programs.proofs.definitions.read_body.Tie as tie
 use Rattle.programs.proofs.definitions.read_body.Reads as reads
 use Rattle.programs.proofs.definitions.read_body.Lts as lts
-use Rattle.programs.proofs.forms.read_form.Reads as read-form-reads
-use Rattle.programs.proofs.marks.read_mark.Reads as read-mark-reads
+use Rattle.forms.proofs.read_form.Reads as read-form-reads
+use Rattle.forms.proofs.read_mark.Reads as read-mark-reads
 
 -- let a = match marks::read_mark(s, at, b'=') {
 read-mark-requires : tie.Need-read-mark-requires

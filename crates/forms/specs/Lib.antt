@@ -1,0 +1,3 @@
+-- The definitions that the contracts of forms cite.
+pub mod Readers
+pub mod Readings
