@@ -1,25 +1,18 @@
 -- What an answer says of what was read, and that reading may go on behind it.
-use Prim.Native.Nat.{ℕ, zero, suc, _+_, _-_, _*_, _≤_, _<_}
+use Prim.Native.Nat.{ℕ, _+_, _-_, _≤_, _<_}
 use mathlib.Core.Path.{_≡_, refl, ap, sym, _∙_}
-use mathlib.Core.Bool.{Bool, true, false}
-use mathlib.Core.List.{List, [], _∷_, _++_}
+use mathlib.Core.List.{List}
 use native.Mathlib.Omega.{arith}
-use mir.Syntax.{w32, w64}
-use mir.Val.{Fits}
-use lib.Dec.{eqb}
 use lib.ListN.{length}
 use borrow.Author.Tests.{eq-eqb, ne-eqb}
-use Rattle.language.specs.Objects.{Obj, cellsOf}
-use Rattle.language.specs.Forms.{Form, Forms, count, formsIn, formsInAll, constantCells, constantCellsAll}
+use Rattle.language.specs.Objects.{Obj}
+use Rattle.language.specs.Forms.{Form, Forms, count}
 use Rattle.language.specs.Tokens.{byteAt, placeFrom}
 use Rattle.language.specs.Judging.{refusalOf}
-use Rattle.language.specs.Reading.{Got, got, no, andThen, wordAt, refused, mark, calls, readForm, readPart, readParts, readForms}
+use Rattle.language.specs.Reading.{Got, got, no, wordAt, refused, mark, calls}
 use Rattle.theorems.proofs.Outcomes.{got-meets, place-on}
-use Rattle.theorems.proofs.Refusals.{Ends, mark-within, object-within, form-within, part-within, parts-within, forms-within}
-use Rattle.lexer.specs.Readings.{Skipped}
+use Rattle.theorems.proofs.Refusals.{Ends, mark-within, form-within, part-within, parts-within}
 use Rattle.cells.specs.Encoding.{valOf, cellsFrom}
-use Rattle.cells.proofs.Encoded.{length-cells}
-use Rattle.formtable.specs.Encoding.{encodeForm, encodeForms, constantsFrom, constantsFromAll}
 use Rattle.formtable.proofs.Lengths.{length-form, length-forms, length-constants, length-all-constants}
 use Rattle.language.specs.declared.Val.{Val}
 use Rattle.objects.specs.declared.ObjectRead.{ObjectRead}
@@ -27,15 +20,17 @@ use Rattle.objects.specs.declared.ObjectRead.the-variants as O
 use Rattle.forms.specs.declared.Upto.{Upto}
 use Rattle.forms.specs.declared.MarkRead.{MarkRead}
 use Rattle.forms.specs.declared.MarkRead.the-variants as M
+use Rattle.forms.specs.declared.CommaRead.{CommaRead}
+use Rattle.forms.specs.declared.CommaRead.the-variants as C
 use Rattle.forms.specs.declared.DotRead.{DotRead}
 use Rattle.forms.specs.declared.DotRead.the-variants as D
 use Rattle.forms.specs.declared.FormRead.{FormRead}
 use Rattle.forms.specs.declared.FormRead.the-variants as F
 use Rattle.forms.specs.declared.FormsRead.{FormsRead}
 use Rattle.forms.specs.declared.FormsRead.the-variants as S
-use Rattle.forms.specs.Readers.{objectAt, partAt, formAt, partsAt, formsAt}
-use Rattle.forms.specs.Readings.{Ready, Passed, Dotted, dot-read, no-dot, Marked, mark-read, mark-refused, Run, Laid, FormLaid, FormsLaid, ObjectMet, object-read, object-refused, FormMet, form-read, form-refused, FormsMet, forms-read, forms-refused}
-use Rattle.forms.proofs.Small.{Small, AllSmall, SmallObject, object-small, form-small, parts-small, forms-small, part-small}
+use Rattle.forms.specs.Readers.{partAt, formAt, partsAt}
+use Rattle.forms.specs.Readings.{Ready, Passed, Dotted, dot-read, no-dot, Separated, comma-read, bracket-read, neither-read, Marked, mark-read, mark-refused, Run, FormLaid, FormsLaid, ObjectMet, object-read, object-refused, FormMet, form-read, form-refused, FormsMet, forms-read, forms-refused}
+use Rattle.forms.proofs.Small.{Small, AllSmall, form-small, parts-small, part-small}
 
 -- ---- what was got, and what was refused
 pub record GotForm (n c : ℕ) (t u : List ℕ) (x : Upto) (t′ u′ : List ℕ) (g : Got Form) : Type 0 where
@@ -124,6 +119,16 @@ dot-passed {s} {at} {a} (dot-read h q) e =
     record { behind = omega arith; inside = omega arith }
 dot-passed (no-dot h q) e = absurd (let z : _≡_ {A = ℕ} 0 1 = cc in omega arith)
 
+-- a comma
+pub comma-passed : {s : List ℕ} {at a : ℕ} {r : CommaRead} → Separated s at r → r ≡ C.More a → Passed s at a
+comma-passed {s} {at} {a} (comma-read h q) e =
+    let z : placeFrom s at + 1 ≡ a = cc in
+    let o = place-on s at in
+    let w = mark-within s (placeFrom s at) 44 (omega arith) (eq-eqb (byteAt s (placeFrom s at)) 44 h) in
+    record { behind = omega arith; inside = omega arith }
+comma-passed (bracket-read h q) e = absurd (let z : _≡_ {A = ℕ} 0 1 = cc in omega arith)
+comma-passed (neither-read g h q) e = absurd (let z : _≡_ {A = ℕ} 0 1 = cc in omega arith)
+
 -- ---- reading may go on behind what was read
 pub record After (s : List ℕ) (at : ℕ) (x : Upto) : Type 0 where
   pub ready : Ready s (x .next) (x .forms) (x .cells)
@@ -170,9 +175,3 @@ module _ {s : List ℕ} {at : ℕ} (room : ℕ) {n c k : ℕ} {t u t′ u′ : L
   parts-after a m e =
       let y = forms-got m e in
       after-all a y (got-meets (parts-within (calls s) s at room (a .inside)) (y .is)) (got-meets (parts-small (calls s) s at room) (y .is))
-
--- ---- the next place behind an answer
-module _ {s : List ℕ} {at p : ℕ} {x : Upto} where
-  -- a byte that is no 0 stands within the text
-  pub byte-passed : {b : ℕ} (k : ℕ) → 1 ≤ k → After s at x → Skipped s (x .next) p → b ≡ byteAt s p → b ≡ k → p + 1 ≤ length s
-  byte-passed k l a q h e = mark-within s p k l (eq-eqb (byteAt s p) k (sym h ∙ e))

@@ -1,14 +1,13 @@
 -- Forms and chains: a law for each way out of read_form, read_chain and read_parts, and for each call that they make.
-use Prim.Native.Nat.{ℕ, zero, suc, _+_, _-_, _*_, _≤_, _<_}
-use mathlib.Core.Path.{_≡_, refl, ap, sym, _∙_}
-use mathlib.Core.List.{List, [], _∷_, _++_}
+use Prim.Native.Nat.{ℕ, suc, _+_, _-_, _*_, _≤_, _<_}
+use mathlib.Core.Path.{_≡_, refl, ap, _∙_}
+use mathlib.Core.List.{List}
 use native.Mathlib.Omega.{arith}
-use mir.Syntax.{w32, w64}
+use mir.Syntax.{w32}
 use mir.Val.{Fits}
 use lib.ListN.{length}
-use Rattle.language.specs.Forms.{Form, chain, Forms, stop, _&_, _+&_, count, formsInAll, constantCells}
-use Rattle.language.specs.Tokens.{byteAt}
-use Rattle.language.specs.Reading.{Got, got, no, andThen, afterPart, afterParts}
+use Rattle.language.specs.Forms.{Form, chain, Forms, stop, _&_, count, formsInAll, constantCells}
+use Rattle.language.specs.Reading.{Got, no, andThen, afterPart}
 use Rattle.theorems.proofs.FormCounts.{form-counted}
 use Rattle.tables.specs.Tables.{recordPut, shifted}
 use Rattle.formtable.specs.Encoding.{encodeForm, encodeForms, constantsFrom, constantsFromAll}
@@ -21,10 +20,10 @@ use Rattle.forms.specs.declared.FormRead.the-variants as F
 use Rattle.forms.specs.declared.FormsRead.{FormsRead}
 use Rattle.forms.specs.declared.FormsRead.the-variants as S
 use Rattle.forms.specs.Readers.{partAt, formAt, partsAt, chainAt}
-use Rattle.forms.specs.Readings.{Ready, Passed, Dotted, Run, Laid, FormMet, form-read, form-refused, FormsMet, forms-read, forms-refused, Continued}
+use Rattle.forms.specs.Readings.{Ready, Dotted, Laid, FormMet, form-read, form-refused, FormsMet, Continued}
 use Rattle.forms.proofs.Laying.{run-then, run-moved, run-as}
 use Rattle.forms.proofs.Equations.{form-is, one-part, more-parts}
-use Rattle.forms.proofs.Answers.{GotForm, form-got, form-no, forms-got, forms-no, After, part-after, parts-after, dot-passed}
+use Rattle.forms.proofs.Answers.{form-got, form-no, forms-got, forms-no, part-after, parts-after, dot-passed}
 
 -- the cell behind a form's constants
 pub cells-at : (f : Form) {n c m d : ℕ} {t u t′ u′ : List ℕ} → Laid (encodeForm c f) (constantsFrom c f) n c t u m d t′ u′ → d ≡ c + constantCells f

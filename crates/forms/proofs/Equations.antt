@@ -1,23 +1,23 @@
 -- What each reader with enough calls reads, by what the others read.
-use Prim.Native.Nat.{ℕ, zero, suc, _+_, _-_, _*_, _≤_, _<_}
-use Prim.Native.Char.{code}
+use Prim.Native.Nat.{ℕ, suc, _+_, _-_, _≤_, _<_}
 use mathlib.Core.Path.{_≡_, refl, ap, sym, _∙_}
-use mathlib.Core.Bool.{Bool, true, false, cond, not, _&&_, _||_}
+use mathlib.Core.Bool.{Bool, true, false, cond, _||_}
 use mathlib.Core.List.{List}
 use native.Mathlib.Omega.{arith}
-use borrow.Author.Tests.{eq-eqb, ne-eqb}
+use borrow.Author.Tests.{ne-eqb}
 use lib.Dec.{eqb}
 use lib.ListN.{length}
-use Rattle.language.specs.Objects.{Obj}
 use Rattle.language.specs.Forms.{Form, chain, construct, constant, insert, applyAll, bu, condition, while, Forms, stop, _&_}
 use Rattle.language.specs.Tokens.{byteAt, placeFrom}
 use Rattle.language.specs.Judging.{refusalOf}
-use Rattle.language.specs.Reading.{Got, got, no, andThen, wordAt, refused, mark, opens, afterTest, afterPart, afterParts, afterForm, readObj, readForm, readParts, readForms, readPart, calls}
+use Rattle.language.specs.Reading.{Got, got, no, andThen, wordAt, refused, mark, opens, afterTest, afterPart, afterParts, afterForm, readForm, readPart, calls}
 use Rattle.theorems.proofs.Calls.{part-calls, form-calls, parts-calls, forms-calls}
+use Rattle.forms.specs.declared.CommaRead.{CommaRead}
+use Rattle.forms.specs.declared.CommaRead.the-variants as C
 use Rattle.forms.specs.declared.DotRead.{DotRead}
 use Rattle.forms.specs.declared.DotRead.the-variants as D
-use Rattle.forms.specs.Readings.{Dotted, dot-read, no-dot}
-use Rattle.forms.specs.Readers.{objectAt, partAt, formAt, partsAt, formsAt, plainAt, constantAt, prefixForm, prefixAt, constructAt, boundAt, buAt, roundAt, closedAt, chainAt, whileAt, Branches, both, branchesAt, conditionAt, isOpening, isArrow}
+use Rattle.forms.specs.Readings.{Dotted, dot-read, no-dot, Separated, comma-read, bracket-read, neither-read}
+use Rattle.forms.specs.Readers.{objectAt, partAt, formAt, partsAt, formsAt, plainAt, constantAt, prefixForm, prefixAt, constructAt, boundAt, buAt, roundAt, closedAt, whileAt, both, branchesAt, conditionAt, isOpening, isArrow}
 
 -- ---- one step behind another
 module _ {A B C : Type 0} where
@@ -164,24 +164,35 @@ module _ (s : List ℕ) (e : ℕ) {q : DotRead} (f : Form) (r : ℕ → Got Form
   next-part {a} (dot-read h i) z = let y : placeFrom s e + 1 ≡ a = cc in rw (h, y)
   next-part (no-dot h i) z = absurd (let y : _≡_ {A = ℕ} 0 1 = cc in omega arith)
 
--- ---- behind a form: p is the next place and b its byte
+-- ---- behind a form of `[ ]`
+module _ (s : List ℕ) (e : ℕ) {q : CommaRead} (f : Form) (r : ℕ → Got Forms) where
+  pub last-form : {a : ℕ} → Separated s e q → q ≡ C.Closed a → afterForm s f e r ≡ got (f & stop) a
+  unfolding afterForm
+  last-form (comma-read h i) z = absurd (let y : _≡_ {A = ℕ} 0 1 = cc in omega arith)
+  last-form {a} (bracket-read h i) z = let y : placeFrom s e + 1 ≡ a = cc in rw (h, y)
+  last-form (neither-read g h i) z = absurd (let y : _≡_ {A = ℕ} 0 1 = cc in omega arith)
+
+  pub next-form : {a : ℕ} → Separated s e q → q ≡ C.More a → afterForm s f e r ≡ andThen (r a) (λ fs e. got (f & fs) e)
+  unfolding afterForm
+  next-form {a} (comma-read h i) z = let y : placeFrom s e + 1 ≡ a = cc in rw (h, y)
+  next-form (bracket-read h i) z = absurd (let y : _≡_ {A = ℕ} 0 1 = cc in omega arith)
+  next-form (neither-read g h i) z = absurd (let y : _≡_ {A = ℕ} 0 1 = cc in omega arith)
+
+  pub other-form : {k p : ℕ} → Separated s e q → q ≡ C.No k p → afterForm s f e r ≡ no k p
+  unfolding afterForm refused
+  other-form (comma-read h i) z = absurd (let y : _≡_ {A = ℕ} 0 1 = cc in omega arith)
+  other-form (bracket-read h i) z = absurd (let y : _≡_ {A = ℕ} 0 1 = cc in omega arith)
+  other-form {k} {p} (neither-read g h i) z =
+      let y : placeFrom s e ≡ p = cc in
+      let w : refusalOf (wordAt s (placeFrom s e)) ≡ k = cc in
+      rw (ne-eqb (byteAt s (placeFrom s e)) 44 g, ne-eqb (byteAt s (placeFrom s e)) 93 h, w, y)
+
+-- ---- behind a first form: p is the next place and b its byte
 module _ (s : List ℕ) (e p b : ℕ) (p-is : p ≡ placeFrom s e) (b-is : b ≡ byteAt s p) where
   next : byteAt s (placeFrom s e) ≡ b
   next = ap (λ (q : ℕ). byteAt s q) (sym p-is) ∙ sym b-is
 
   module _ (f : Form) where
-    pub last-form : (r : ℕ → Got Forms) → b ≡ 93 → afterForm s f e r ≡ got (f & stop) (p + 1)
-    unfolding afterForm
-    last-form r h = rw (next, h, ← p-is)
-
-    pub next-form : (r : ℕ → Got Forms) → b ≡ 44 → afterForm s f e r ≡ andThen (r (p + 1)) (λ fs e. got (f & fs) e)
-    unfolding afterForm
-    next-form r h = rw (next, h, ← p-is)
-
-    pub other-form : (r : ℕ → Got Forms) → (b ≡ 93 → ⊥) → (b ≡ 44 → ⊥) → afterForm s f e r ≡ no (refusalOf (wordAt s p)) p
-    unfolding afterForm refused
-    other-form r h i = rw (next, ne-eqb b 93 h, ne-eqb b 44 i, ← p-is)
-
     -- behind the first form in `( )`
     module _ (room : ℕ) where
       pub test-while : isArrow s p ≡ false → b ≡ 63 → afterTest s f e (λ a. formAt s a room) ≡ whileAt s (p + 1) room f

@@ -1,9 +1,9 @@
 -- How records and cells come to stand in the tables: nothing, one run behind another, a record, a record before a run, and a
 -- record before a run that moved up for it.
-use Prim.Native.Nat.{ℕ, _+_, _-_, _*_, _≤_, _<_}
+use Prim.Native.Nat.{ℕ, _+_, _-_, _*_, _≤_}
 use mathlib.Core.Path.{_≡_, refl, ap, sym, _∙_}
-use mathlib.Core.Bool.{Bool, true, false, cond}
-use mathlib.Core.List.{List, [], _∷_, _++_, append-nil}
+use mathlib.Core.Bool.{Bool, true, false}
+use mathlib.Core.List.{List, [], _∷_, _++_}
 use native.Mathlib.Nat.{add-zero}
 use native.Mathlib.Omega.{arith}
 use lib.Dec.{leb}
@@ -13,7 +13,7 @@ use borrow.Author.Tests.{leb-true, leb-false}
 use Rattle.tables.specs.Tables.{put, recordPut, shifted}
 use Rattle.tables.proofs.Put.{put-after, put-before, put-over, put-none, length-put}
 use Rattle.tables.proofs.Records.{record-fits, length-record, shift-fits, shift-full, shift-none}
-use Rattle.forms.specs.Readings.{Run, Laid}
+use Rattle.forms.specs.Readings.{Run}
 
 pub run-none : {n : ℕ} {t : List ℕ} → Run [] n t n t
 run-none {n} {t} = record { ends = add-zero (n * 4); is = λ room. sym (put-none t (n * 4)); long = refl }

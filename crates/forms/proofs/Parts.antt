@@ -1,22 +1,19 @@
 -- Parts: a law for each way out of read_part, read_prefix, read_bu and of the readers of parts without forms, and for each call that they make.
-use Prim.Native.Nat.{ℕ, zero, suc, _+_, _-_, _*_, _/_, _%_, _≤_, _<_}
+use Prim.Native.Nat.{ℕ, zero, suc, _+_, _-_, _*_, _≤_, _<_}
 use mathlib.Core.Path.{_≡_, refl, ap, sym, _∙_}
 use mathlib.Core.Bool.{Bool, true, false, not, cond}
-use mathlib.Core.List.{List, [], _∷_, _++_}
+use mathlib.Core.List.{List}
 use native.Mathlib.Omega.{arith}
-use mir.Syntax.{w32, w64}
-use mir.Val.{Fits}
 use lib.Dec.{eqb}
 use lib.IntN.{pos, negsuc}
 use lib.ListN.{length}
 use borrow.Author.Tests.{eq-eqb, ne-eqb, eqb-true, eqb-false}
 use Rattle.language.specs.declared.Val.{Val}
 use Rattle.language.specs.Objects.{Obj, int, symbol, seq}
-use Rattle.language.specs.Forms.{Form, constant, insert, applyAll, bu, constantCells}
+use Rattle.language.specs.Forms.{Form, insert, applyAll, bu, constantCells}
 use Rattle.language.specs.Tokens.{byteAt}
-use Rattle.language.specs.Reading.{Got, got, no, andThen, mark, calls}
-use Rattle.theorems.proofs.Outcomes.{got-meets}
-use Rattle.theorems.proofs.Refusals.{mark-within, object-within}
+use Rattle.language.specs.Reading.{Got, mark}
+use Rattle.theorems.proofs.Refusals.{mark-within}
 use Rattle.tables.specs.Tables.{recordPut}
 use Rattle.lexer.specs.Readings.{Skipped}
 use Rattle.cells.specs.Encoding.{valOf, cellsFrom}
@@ -24,15 +21,13 @@ use Rattle.formtable.specs.Encoding.{lowOf, highOf, encodeForm, constantsFrom}
 use Rattle.objects.specs.declared.ObjectRead.{ObjectRead}
 use Rattle.objects.specs.declared.ObjectRead.the-variants as O
 use Rattle.forms.specs.declared.Upto.{Upto}
-use Rattle.forms.specs.declared.MarkRead.{MarkRead}
-use Rattle.forms.specs.declared.MarkRead.the-variants as M
 use Rattle.forms.specs.declared.FormRead.{FormRead}
 use Rattle.forms.specs.declared.FormRead.the-variants as F
-use Rattle.forms.specs.Readers.{objectAt, partAt, plainAt, constantAt, prefixForm, prefixAt, constructAt, boundAt, buAt, roundAt, isOpening}
-use Rattle.forms.specs.Readings.{Ready, Marked, Run, Laid, ObjectMet, object-read, object-refused, FormMet, form-read, form-refused, PlainPut, BuPut, PlainMet}
-use Rattle.forms.proofs.Laying.{run-none, run-then, run-record, run-under, run-as}
+use Rattle.forms.specs.Readers.{partAt, constantAt, prefixForm, prefixAt, constructAt, boundAt, buAt, roundAt, isOpening}
+use Rattle.forms.specs.Readings.{Ready, Run, Laid, ObjectMet, FormMet, form-read, form-refused, BuPut, PlainMet}
+use Rattle.forms.proofs.Laying.{run-then, run-under, run-as}
 use Rattle.forms.proofs.Equations.{part-plain-is, part-deep-is, part-construct-is, part-constant-is, part-insert-is, part-apply-is, part-bu-is, part-round-is}
-use Rattle.forms.proofs.Answers.{GotForm, form-got, form-no, GotObject, object-got, object-no, mark-got, mark-no, mark-passed, After, part-after}
+use Rattle.forms.proofs.Answers.{form-got, form-no, object-got, object-no, part-after}
 use Rattle.forms.proofs.Chains.{cells-at}
 
 -- ---- read_part

@@ -1,23 +1,22 @@
 -- Marks, words, names and constants: a law for each way out of their readers, and for each call that they make.
-use Prim.Native.Nat.{ℕ, zero, suc, _+_, _-_, _*_, _/_, _%_, _≤_, _<_}
+use Prim.Native.Nat.{ℕ, _+_, _-_, _≤_, _<_}
 use mathlib.Core.Path.{_≡_, refl, ap, sym, _∙_}
-use mathlib.Core.Bool.{Bool, true, false, cond, _&&_, and-eq-true-iff}
+use mathlib.Core.Bool.{Bool, true, false, and-eq-true-iff}
 use borrow.Author.Tests.{eq-eqb, ne-eqb}
 use lib.Dec.{eqb}
-use mathlib.Core.List.{List, [], _∷_, _++_}
+use mathlib.Core.List.{List, [], _∷_}
 use native.Mathlib.Omega.{arith}
-use mir.Syntax.{w32, w64}
+use mir.Syntax.{w32}
 use mir.Val.{Fits}
 use lib.ListN.{length}
 use lib.Seq.{slice}
 use Rattle.language.specs.declared.Val.{Val}
-use Rattle.language.specs.Objects.{Obj, cellsOf}
-use Rattle.language.specs.Forms.{Form, word, name, constant, bu, Word, select, selectRight, op}
+use Rattle.language.specs.Objects.{Obj}
+use Rattle.language.specs.Forms.{Form, word, name, constant, select, selectRight, op}
 use Rattle.language.specs.Words.{Op}
-use Rattle.language.specs.Tokens.{byteAt, placeFrom, sizeAt}
+use Rattle.language.specs.Tokens.{byteAt, placeFrom}
 use Rattle.language.specs.Judging.{Judged, is, isNot, judgePart, refusalOf}
-use Rattle.language.specs.Packing.{packed}
-use Rattle.language.specs.Reading.{Got, got, no, andThen, wordAt, asJudged, mark, calls}
+use Rattle.language.specs.Reading.{Got, got, no, andThen, wordAt, mark, calls}
 use Rattle.theorems.proofs.Outcomes.{MeetsWord, meetsWord}
 use Rattle.theorems.proofs.Refusals.{mark-within}
 use Rattle.theorems.proofs.JudgedWords.{IsPartIn, judged-part}
@@ -36,21 +35,19 @@ use Rattle.objects.specs.declared.ObjectRead.{ObjectRead}
 use Rattle.objects.specs.declared.ObjectRead.the-variants as O
 use Rattle.objects.specs.Readings.{ReadMeets, reads, refuses, ObjectReading}
 use Rattle.objects.proofs.Symbols.{packed-is}
-use Rattle.forms.specs.declared.Upto.{Upto}
 use Rattle.forms.specs.declared.MarkRead.{MarkRead}
 use Rattle.forms.specs.declared.MarkRead.the-variants as M
-use Rattle.forms.specs.declared.DotRead.{DotRead}
+use Rattle.forms.specs.declared.CommaRead.the-variants as C
 use Rattle.forms.specs.declared.DotRead.the-variants as D
-use Rattle.forms.specs.declared.TestRead.{TestRead}
 use Rattle.forms.specs.declared.TestRead.the-variants as T
 use Rattle.forms.specs.declared.FormRead.{FormRead}
 use Rattle.forms.specs.declared.FormRead.the-variants as F
 use Rattle.forms.specs.Readers.{objectAt, plainAt, constantAt, boundAt, isOpening, isArrow}
-use Rattle.forms.specs.Readings.{Ready, Marked, mark-read, mark-refused, Dotted, dot-read, no-dot, Passed, Tested, Run, Laid, ObjectMet, object-read, object-refused, FormMet, form-read, form-refused, PlainPut, PlainMet}
+use Rattle.forms.specs.Readings.{Marked, mark-read, mark-refused, Dotted, dot-read, no-dot, Separated, comma-read, bracket-read, neither-read, Tested, Run, Laid, ObjectMet, object-read, object-refused, FormMet, form-read, form-refused, PlainPut, PlainMet}
 use Rattle.forms.proofs.Laying.{run-none, run-record, run-as}
 use Rattle.forms.proofs.Small.{Plain, a-word, a-name, neither, part-plain}
 use Rattle.forms.proofs.Equations.{test-condition, test-while, test-closed, test-other}
-use Rattle.forms.proofs.Answers.{GotObject, object-got, object-no, mark-got, mark-no}
+use Rattle.forms.proofs.Answers.{GotObject, object-got, mark-got, mark-no}
 use Rattle.forms.proofs.Parts.{tag-few}
 
 -- ---- is_opening
@@ -94,6 +91,17 @@ module _ {s : List ℕ} {at p q : ℕ} (i : Skipped s at p) (h : q ≡ byteAt s 
 
   pub dot-none : (q ≡ 46 → ⊥) → Dotted s at D.Nothing
   dot-none o = no-dot (λ z. o (sym (here i h) ∙ z)) refl
+
+-- ---- read_comma
+module _ {s : List ℕ} {at p q : ℕ} (i : Skipped s at p) (h : q ≡ byteAt s p) where
+  pub comma-closed : q ≡ 93 → Separated s at (C.Closed (p + 1))
+  comma-closed e = bracket-read (here i h ∙ e) (ap (λ (x : ℕ). C.Closed (x + 1)) (i .is))
+
+  pub comma-more : q ≡ 44 → Separated s at (C.More (p + 1))
+  comma-more e = comma-read (here i h ∙ e) (ap (λ (x : ℕ). C.More (x + 1)) (i .is))
+
+  pub comma-other : {k : ℕ} → (q ≡ 93 → ⊥) → (q ≡ 44 → ⊥) → k ≡ refusalOf (wordAt s p) → Separated s at (C.No k p)
+  comma-other o u e = neither-read (λ z. u (sym (here i h) ∙ z)) (λ z. o (sym (here i h) ∙ z)) (ap (λ (x : ℕ). C.No x p) e ∙ ap (λ (x : ℕ). C.No (refusalOf (wordAt s x)) x) (i .is))
 
 -- ---- is_arrow
 module _ (s : List ℕ) (p : ℕ) {b : ℕ} (h : b ≡ byteAt s p) where

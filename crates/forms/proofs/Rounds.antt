@@ -1,20 +1,12 @@
 -- Forms in `( )`: a law for each way out of read_round, read_closed, read_while and read_condition, and for each call that they make.
-use Prim.Native.Nat.{ℕ, zero, suc, _+_, _-_, _*_, _≤_, _<_}
-use mathlib.Core.Path.{_≡_, refl, ap, sym, _∙_}
-use mathlib.Core.Bool.{Bool, true, false, _&&_, and-eq-true-iff}
-use mathlib.Core.List.{List, [], _∷_, _++_}
+use Prim.Native.Nat.{ℕ, _+_, _-_, _*_, _≤_, _<_}
+use mathlib.Core.Path.{_≡_, refl, ap, _∙_}
+use mathlib.Core.List.{List, _++_}
 use native.Mathlib.Omega.{arith}
-use mir.Syntax.{w32, w64}
-use mir.Val.{Fits}
-use lib.Dec.{eqb}
 use lib.ListN.{length}
 use Rattle.language.specs.Forms.{Form, condition, while, constantCells}
-use Rattle.language.specs.Tokens.{byteAt}
-use Rattle.language.specs.Judging.{refusalOf}
-use Rattle.language.specs.Reading.{Got, got, no, andThen, wordAt, mark, afterTest}
-use Rattle.theorems.proofs.Refusals.{mark-within}
+use Rattle.language.specs.Reading.{Got, got, no, andThen, mark, afterTest}
 use Rattle.tables.specs.Tables.{recordPut, shifted}
-use Rattle.lexer.specs.Readings.{Skipped}
 use Rattle.formtable.specs.Encoding.{encodeForm, constantsFrom}
 use Rattle.forms.specs.declared.Upto.{Upto}
 use Rattle.forms.specs.declared.MarkRead.{MarkRead}
@@ -24,9 +16,9 @@ use Rattle.forms.specs.declared.TestRead.the-variants as T
 use Rattle.forms.specs.declared.FormRead.{FormRead}
 use Rattle.forms.specs.declared.FormRead.the-variants as F
 use Rattle.forms.specs.Readers.{formAt, closedAt, roundAt, whileAt, Branches, both, branchesAt, conditionAt}
-use Rattle.forms.specs.Readings.{Ready, Marked, testOf, Passed, Tested, Run, Laid, FormMet, form-read, form-refused, BranchesMet, branches-read, branches-refused, Continued}
+use Rattle.forms.specs.Readings.{Ready, Marked, testOf, Passed, Tested, Laid, FormMet, form-read, form-refused, BranchesMet, branches-read, branches-refused, Continued}
 use Rattle.forms.proofs.Laying.{run-then, run-moved, run-as}
-use Rattle.forms.proofs.Answers.{GotForm, form-got, form-no, mark-got, mark-no, mark-passed, After, form-after, byte-passed}
+use Rattle.forms.proofs.Answers.{GotForm, form-got, form-no, mark-got, mark-no, mark-passed, After, form-after}
 use Rattle.forms.proofs.Chains.{cells-at}
 
 -- ---- what the tables hold

@@ -1,23 +1,21 @@
 -- Forms in a row, as read_parts and read_forms read them: those read so far, one more, the last; and a law for each way out.
-use Prim.Native.Nat.{ℕ, zero, suc, _+_, _-_, _*_, _≤_, _<_}
+use Prim.Native.Nat.{ℕ, _+_, _-_, _*_, _≤_, _<_}
 use mathlib.Core.Path.{_≡_, refl, ap, sym, _∙_}
-use mathlib.Core.List.{List, [], _∷_, _++_}
-use native.Mathlib.Nat.{add-zero}
+use mathlib.Core.List.{List, _++_}
 use native.Mathlib.Omega.{arith}
-use mir.Syntax.{w32, w64}
+use mir.Syntax.{w32}
 use mir.Val.{Fits}
 use lib.ListN.{length}
-use Rattle.language.specs.Forms.{Form, construct, Forms, stop, _&_, _+&_, count, constantCells, constantCellsAll}
-use Rattle.language.specs.Tokens.{byteAt}
-use Rattle.language.specs.Judging.{refusalOf}
-use Rattle.language.specs.Reading.{Got, got, no, andThen, wordAt, afterParts, afterForm}
+use Rattle.language.specs.Forms.{Form, construct, Forms, stop, _&_, _+&_, count, constantCellsAll}
+use Rattle.language.specs.Reading.{Got, got, no, andThen, afterParts, afterForm}
 use Rattle.theorems.proofs.FormCounts.{count-append}
 use Rattle.tables.specs.Tables.{recordPut}
-use Rattle.lexer.specs.Readings.{Skipped}
 use Rattle.formtable.specs.Encoding.{encodeForm, encodeForms, constantsFrom, constantsFromAll}
 use Rattle.formtable.proofs.Lengths.{length-all-constants}
 use Rattle.formtable.proofs.Appended.{forms-appended, constants-appended, one-form, one-constants}
 use Rattle.forms.specs.declared.Upto.{Upto}
+use Rattle.forms.specs.declared.CommaRead.{CommaRead}
+use Rattle.forms.specs.declared.CommaRead.the-variants as C
 use Rattle.forms.specs.declared.DotRead.{DotRead}
 use Rattle.forms.specs.declared.DotRead.the-variants as D
 use Rattle.forms.specs.declared.FormRead.{FormRead}
@@ -25,10 +23,10 @@ use Rattle.forms.specs.declared.FormRead.the-variants as F
 use Rattle.forms.specs.declared.FormsRead.{FormsRead}
 use Rattle.forms.specs.declared.FormsRead.the-variants as S
 use Rattle.forms.specs.Readers.{partAt, formAt, partsAt, formsAt, constructAt}
-use Rattle.forms.specs.Readings.{Ready, Passed, Dotted, Run, Laid, FormMet, form-read, form-refused, FormsMet, forms-read, forms-refused}
+use Rattle.forms.specs.Readings.{Ready, Dotted, Separated, Laid, FormMet, form-read, form-refused, FormsMet, forms-read, forms-refused}
 use Rattle.forms.proofs.Laying.{run-none, run-then, run-under, run-as}
 use Rattle.forms.proofs.Equations.{parts-are, forms-are, last-part, next-part, last-form, next-form, other-form, then-got}
-use Rattle.forms.proofs.Answers.{GotForm, form-got, form-no, forms-got, forms-no, After, part-after, form-after, byte-passed, dot-passed}
+use Rattle.forms.proofs.Answers.{GotForm, form-got, form-no, forms-got, forms-no, part-after, form-after, dot-passed, comma-passed}
 
 -- the forms read so far from `from` on, k of them; reading goes on at `at`
 pub record Going (readAt : List ℕ → ℕ → ℕ → Got Forms) (s : List ℕ) (room from first cell : ℕ) (t₀ u₀ : List ℕ) (at n c k : ℕ) (t u : List ℕ) : Type 0 where
@@ -141,33 +139,31 @@ module _ (s : List ℕ) (room : ℕ) {from first cell at n c k : ℕ} {t₀ u₀
     pub forms-stop : {j p : ℕ} {t′ u′ : List ℕ} → r ≡ F.No j p → FormsMet first cell t₀ u₀ (S.No j p) t′ u′ (formsAt s from room)
     forms-stop {j} {p} e = row-no formsAt w j p (form-then ∙ ap (λ (g : Got Form). andThen g (λ f e. afterForm s f e (λ a. formsAt s a room))) (form-no m e))
 
-    module _ {x : Upto} {p : ℕ} (e : r ≡ F.Got x) (i : Skipped s (x .next) p) where
-      pub forms-place-fits : Fits w64 (p + 1)
-      forms-place-fits = let z = form-after room (w .ready) m e in record { fits = omega (arith, z .ready .short, z .ready .inside, i .high) }
+    module _ {x : Upto} (e : r ≡ F.Got x) where
+      pub forms-comma-requires : x .next ≤ length s
+      forms-comma-requires = form-after room (w .ready) m e .ready .inside
 
-      module _ {b : ℕ} (h : b ≡ byteAt s p) where
-        form-here : formsAt s at room ≡ afterForm s (form-got m e .form) (x .next) (λ a. formsAt s a room)
-        form-here = form-then ∙ ap (λ (g : Got Form). andThen g (λ f e. afterForm s f e (λ a. formsAt s a room))) (form-got m e .is)
+      form-here : formsAt s at room ≡ afterForm s (form-got m e .form) (x .next) (λ a. formsAt s a room)
+      form-here = form-then ∙ ap (λ (g : Got Form). andThen g (λ f e. afterForm s f e (λ a. formsAt s a room))) (form-got m e .is)
 
-        pub forms-last : b ≡ 93 → FormsMet first cell t₀ u₀ (S.Got (record { next = p + 1; forms = x .forms; cells = x .cells }) (k + 1)) t₁ u₁ (formsAt s from room)
-        forms-last o = row-last formsAt w (form-got m e) (p + 1) (form-here ∙ last-form s (x .next) p b (i .is) h (form-got m e .form) (λ a. formsAt s a room) o)
+      module _ {q : CommaRead} (i : Separated s (x .next) q) where
+        pub forms-last : {a : ℕ} → q ≡ C.Closed a → FormsMet first cell t₀ u₀ (S.Got (record { next = a; forms = x .forms; cells = x .cells }) (k + 1)) t₁ u₁ (formsAt s from room)
+        forms-last {a} o = row-last formsAt w (form-got m e) a (form-here ∙ last-form s (x .next) (form-got m e .form) (λ a. formsAt s a room) i o)
 
-        pub forms-other : {j : ℕ} {t′ u′ : List ℕ} → (b ≡ 93 → ⊥) → (b ≡ 44 → ⊥) → j ≡ refusalOf (wordAt s p) → FormsMet first cell t₀ u₀ (S.No j p) t′ u′ (formsAt s from room)
-        forms-other {j} o v z = row-no formsAt w j p (form-here ∙ other-form s (x .next) p b (i .is) h (form-got m e .form) (λ a. formsAt s a room) o v ∙ ap (λ (q : ℕ). no q p) (sym z))
+        pub forms-other : {j p : ℕ} {t′ u′ : List ℕ} → q ≡ C.No j p → FormsMet first cell t₀ u₀ (S.No j p) t′ u′ (formsAt s from room)
+        forms-other {j} {p} o = row-no formsAt w j p (form-here ∙ other-form s (x .next) (form-got m e .form) (λ a. formsAt s a room) i o)
 
-        pub forms-next : b ≡ 44 → Going formsAt s room from first cell t₀ u₀ (p + 1) (x .forms) (x .cells) (k + 1) t₁ u₁
-        forms-next o =
-            let z = form-after room (w .ready) m e in
-            let v = byte-passed 44 (omega arith) z i h o in
-            let y = z .ready in
-            row-more formsAt w (form-got m e) (p + 1) (form-here ∙ next-form s (x .next) p b (i .is) h (form-got m e .form) (λ a. formsAt s a room) o)
-            (record { short = y .short; inside = v; forms = omega (arith, y .forms, i .low); cells = omega (arith, y .cells, i .low) }) (omega (arith, z .behind, i .low))
+        module _ {a : ℕ} (o : q ≡ C.More a) where
+          pub forms-next : Going formsAt s room from first cell t₀ u₀ a (x .forms) (x .cells) (k + 1) t₁ u₁
+          forms-next =
+              let z = form-after room (w .ready) m e in
+              let v = comma-passed i o in
+              let y = z .ready in
+              row-more formsAt w (form-got m e) a (form-here ∙ next-form s (x .next) (form-got m e .form) (λ a. formsAt s a room) i o)
+              (record { short = y .short; inside = v .inside; forms = omega (arith, y .forms, v .behind); cells = omega (arith, y .cells, v .behind) }) (omega (arith, z .behind, v .behind))
 
-        pub forms-less : b ≡ 44 → length s - (p + 1) < length s - at
-        forms-less o =
-            let z = form-after room (w .ready) m e in
-            let v = byte-passed 44 (omega arith) z i h o in
-            omega (arith, z .behind, i .low)
+          pub forms-less : length s - a < length s - at
+          forms-less = let z = form-after room (w .ready) m e in let v = comma-passed i o in omega (arith, z .behind, v .behind, v .inside)
 
 -- ---- read_construct
 construct-laid : (fs : Forms) {n c k m d : ℕ} {t u t₁ u₁ t₂ : List ℕ} → Laid (encodeForms c fs) (constantsFromAll c fs) (n + 1) c t u m d t₁ u₁ → k ≡ count fs → t₂ ≡ recordPut t₁ n 6 k 0 0 → Laid (encodeForm c (construct fs)) (constantsFrom c (construct fs)) n c t u m d t₂ u₁

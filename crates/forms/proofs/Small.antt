@@ -1,21 +1,20 @@
 -- What is read has no more forms, and no more cells of constants, than it has bytes.
-use Prim.Native.Nat.{ℕ, zero, suc, _+_, _-_, _*_, _≤_}
+use Prim.Native.Nat.{ℕ, zero, suc, _+_, _-_, _≤_}
 use Prim.Native.Char.{code}
-use mathlib.Core.Path.{_≡_, refl}
 use mathlib.Core.Bool.{Bool, true, false, cond, _&&_}
 use mathlib.Core.List.{List, [], _∷_}
 use mathlib.Core.Option.{Option, some, none}
 use native.Mathlib.Omega.{arith}
-use lib.Dec.{leb, eqb}
+use lib.Dec.{eqb}
 use lib.ListN.{length, take, drop}
 use Rattle.language.specs.Bytes.{bytes, sameBytes}
 use Rattle.language.specs.Objects.{Obj, cellsOf}
 use Rattle.language.specs.Words.{Op, ops}
-use Rattle.language.specs.Forms.{Form, word, name, chain, construct, constant, insert, applyAll, bu, condition, while, Forms, stop, _&_, Word, select, selectRight, op, formsIn, formsInAll, constantCells, constantCellsAll}
+use Rattle.language.specs.Forms.{Form, word, name, construct, constant, insert, applyAll, bu, condition, while, Forms, _&_, Word, op, formsIn, formsInAll, constantCells, constantCellsAll}
 use Rattle.language.specs.Tokens.{isDigit, isLetter, byteAt, span, placeFrom, sizeAt}
-use Rattle.language.specs.Judging.{Judged, is, isNot, onJudged, all, isNameByte, judgeWord, valueOf, isSelector, findOp, judgeSelector, wordForm, judgePart}
-use Rattle.language.specs.Reading.{Got, got, no, andThen, wordAt, asJudged, mark, opens, readObj, afterTest, afterPart, afterParts, afterForm, readForm, readParts, readForms, readPart}
-use Rattle.theorems.proofs.Outcomes.{Outcome, meets, refusesBy, Meets, refuses, meets-then, meets-cond, meets-refused, meets-mark, meets-opens, place-on, word-long}
+use Rattle.language.specs.Judging.{Judged, is, isNot, onJudged, isNameByte, judgeWord, isSelector, findOp, judgeSelector, wordForm, judgePart}
+use Rattle.language.specs.Reading.{Got, got, no, andThen, wordAt, asJudged, mark, readObj, afterTest, afterPart, afterParts, afterForm, readForm, readParts, readForms, readPart}
+use Rattle.theorems.proofs.Outcomes.{meets, refusesBy, Meets, refuses, meets-then, meets-cond, meets-refused, meets-mark, meets-opens, place-on, word-long}
 use Rattle.theorems.proofs.ObjectsRead.{ObjectIn, object-in}
 use Rattle.theorems.proofs.WrittenCells.{object-cells}
 

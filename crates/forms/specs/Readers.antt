@@ -6,7 +6,7 @@ use mathlib.Core.List.{List}
 use lib.Dec.{eqb}
 use Rattle.language.specs.Objects.{Obj}
 use Rattle.language.specs.Forms.{Form, chain, construct, constant, insert, applyAll, bu, condition, while, Forms, _&_}
-use Rattle.language.specs.Tokens.{byteAt, placeFrom}
+use Rattle.language.specs.Tokens.{byteAt}
 use Rattle.language.specs.Judging.{judgePart}
 use Rattle.language.specs.Reading.{Got, got, andThen, wordAt, asJudged, mark, afterTest, calls, readObj, readForm, readParts, readForms, readPart}
 

@@ -2,9 +2,9 @@
 use Prim.Native.Nat.{ℕ, _+_, _-_, _*_, _≤_, _<_}
 use mathlib.Core.Path.{_≡_}
 use Prim.Native.Char.{code}
-use mathlib.Core.List.{List, [], _∷_, _++_}
+use mathlib.Core.List.{List, _++_}
 use lib.ListN.{length}
-use Rattle.language.specs.Objects.{Obj, cellsOf}
+use Rattle.language.specs.Objects.{Obj}
 use Rattle.language.specs.Forms.{Form, Forms, count, constantCells}
 use Rattle.language.specs.Tokens.{byteAt, placeFrom}
 use Rattle.language.specs.Judging.{refusalOf}
@@ -20,6 +20,8 @@ use Rattle.forms.specs.declared.MarkRead.{MarkRead}
 use Rattle.forms.specs.declared.MarkRead.the-variants as M
 use Rattle.forms.specs.declared.DotRead.{DotRead}
 use Rattle.forms.specs.declared.DotRead.the-variants as D
+use Rattle.forms.specs.declared.CommaRead.{CommaRead}
+use Rattle.forms.specs.declared.CommaRead.the-variants as C
 use Rattle.forms.specs.declared.TestRead.{TestRead}
 use Rattle.forms.specs.declared.TestRead.the-variants as T
 use Rattle.forms.specs.declared.FormRead.{FormRead}
@@ -44,6 +46,12 @@ pub data Marked (b : ℕ) (s : List ℕ) (at : ℕ) (r : MarkRead) : Type 0 wher
 pub data Dotted (s : List ℕ) (at : ℕ) (r : DotRead) : Type 0 where
   dot-read : byteAt s (placeFrom s at) ≡ code "." → r ≡ D.Dot (placeFrom s at + 1) → Dotted s at r
   no-dot : (byteAt s (placeFrom s at) ≡ code "." → ⊥) → r ≡ D.Nothing → Dotted s at r
+
+-- A comma is next from `at` on, or a `]`, or what stands there is refused.
+pub data Separated (s : List ℕ) (at : ℕ) (r : CommaRead) : Type 0 where
+  comma-read : byteAt s (placeFrom s at) ≡ code "," → r ≡ C.More (placeFrom s at + 1) → Separated s at r
+  bracket-read : byteAt s (placeFrom s at) ≡ code "]" → r ≡ C.Closed (placeFrom s at + 1) → Separated s at r
+  neither-read : (byteAt s (placeFrom s at) ≡ code "," → ⊥) → (byteAt s (placeFrom s at) ≡ code "]" → ⊥) → r ≡ C.No (refusalOf (wordAt s (placeFrom s at))) (placeFrom s at) → Separated s at r
 
 -- what is read behind the first form f in `( )`, by the answer
 abbrev pub testOf : List ℕ → ℕ → Form → TestRead → Got Form

@@ -25,6 +25,14 @@ pub enum DotRead {
     Nothing,
 }
 
+// What follows a form of `[ ]`, with the place behind it: a comma and so another form, or the `]`; or a refusal's number
+// and place.
+pub enum CommaRead {
+    More(usize),
+    Closed(usize),
+    No(u32, usize),
+}
+
 // What follows the first form in `( )`, with the place behind it: the `)`, the `?` of a loop, the `->` of a condition; or
 // a refusal's number and place.
 pub enum TestRead {

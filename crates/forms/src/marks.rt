@@ -3,8 +3,8 @@ ghost use mathlib.Core.Path.{_≡_};
 ghost use Prim.Native.Nat.{_≤_, _<_};
 ghost use lib.ListN.{length};
 ghost use Rattle.forms.specs.Readers.{isOpening, isArrow};
-ghost use Rattle.forms.specs.Readings.{Marked, Dotted, Tested};
-
+ghost use Rattle.forms.specs.Readings.{Marked, Dotted, Separated, Tested};
+use super::CommaRead;
 use super::DotRead;
 use super::MarkRead;
 use super::TestRead;
@@ -31,6 +31,22 @@ pub fn read_dot(s: &[u8], at: usize) -> DotRead
         return DotRead::Nothing;
     }
     DotRead::Dot(p + 1)
+}
+
+// What follows a form of `[ ]` that ends before `at`.
+pub fn read_comma(s: &[u8], at: usize) -> CommaRead
+    requires { ⌜ (length (now s) ≤ 8192) × (at ≤ length (now s)) ⌝ }
+    ensures { λ r. ⌜ Separated (now (s .entry)) at r ⌝ }
+{
+    let p = lexer::skip_blanks(s, at);
+    let b = lexer::byte_at(s, p);
+    if b == b']' {
+        return CommaRead::Closed(p + 1);
+    }
+    if b != b',' {
+        return CommaRead::No(lexer::refusal(s, p), p);
+    }
+    CommaRead::More(p + 1)
 }
 
 // Whether b is a mark that a part may begin with.

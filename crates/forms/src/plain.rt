@@ -4,11 +4,10 @@ ghost use Prim.Native.Nat.{_+_, _≤_, _<_};
 ghost use lib.ListN.{length};
 ghost use Rattle.forms.specs.Readers.{boundAt, constantAt};
 ghost use Rattle.forms.specs.Readings.{Ready, ObjectMet, FormMet, PlainPut, BuPut, PlainMet};
-
-use super::marks;
 use super::FormRead;
 use super::MarkRead;
 use super::Upto;
+use super::marks;
 use language::Val;
 use lexer::PartJudged;
 use objects::ObjectRead;
@@ -18,8 +17,19 @@ fn put_plain(t: &mut [u32], n: usize, kind: u32, word: u64, next: usize, c: u32)
     requires { ⌜ n ≤ 8192 ⌝ }
     ensures { λ r. ⌜ PlainPut n c next kind word (now (t .entry)) r (now (t .exit)) ⌝ }
 {
-    tables::put_record(t, n, kind, 0, (word % 4294967296) as u32, (word / 4294967296) as u32);
-    FormRead::Got(Upto { next, forms: n + 1, cells: c })
+    tables::put_record(
+        t,
+        n,
+        kind,
+        0,
+        (word % 4294967296) as u32,
+        (word / 4294967296) as u32,
+    );
+    FormRead::Got(Upto {
+        next,
+        forms: n + 1,
+        cells: c,
+    })
 }
 
 // Writes record n of `{f,x}`, where the records of f go up to m, v stands for x and the text ends before `next`.
@@ -28,8 +38,19 @@ pub fn put_bu(t: &mut [u32], n: usize, m: usize, v: Val, next: usize, c: u32) ->
     ensures { λ r. ⌜ BuPut n m c next v (now (t .entry)) r (now (t .exit)) ⌝ }
 {
     let word = v.word;
-    tables::put_record(t, n, 16 + v.tag, 1, (word % 4294967296) as u32, (word / 4294967296) as u32);
-    FormRead::Got(Upto { next, forms: m, cells: c })
+    tables::put_record(
+        t,
+        n,
+        16 + v.tag,
+        1,
+        (word % 4294967296) as u32,
+        (word / 4294967296) as u32,
+    );
+    FormRead::Got(Upto {
+        next,
+        forms: m,
+        cells: c,
+    })
 }
 
 // A primitive word, a selector or a name at p, as record n.
@@ -48,7 +69,15 @@ pub fn read_plain(s: &[u8], p: usize, t: &mut [u32], n: usize, c: u32) -> FormRe
 }
 
 // Behind a `%`: the object is read to the cells from c on, its value to record n.
-pub fn read_constant(s: &[u8], at: usize, room: u32, t: &mut [u32], n: usize, u: &mut [u32], c: u32) -> FormRead
+pub fn read_constant(
+    s: &[u8],
+    at: usize,
+    room: u32,
+    t: &mut [u32],
+    n: usize,
+    u: &mut [u32],
+    c: u32,
+) -> FormRead
     requires { ⌜ Ready (now s) at (n + 1) c ⌝ }
     ensures { λ r. ⌜ FormMet n c (now (t .entry)) (now (u .entry)) r (now (t .exit)) (now (u .exit)) (constantAt (now (s .entry)) at room) ⌝ }
 {

@@ -3,19 +3,27 @@
 ghost use Prim.Native.Nat.{_+_, _≤_};
 ghost use Rattle.forms.specs.Readers.{formAt, partsAt, partAt, formsAt, prefixAt, constructAt, buAt, roundAt, closedAt, chainAt, whileAt, branchesAt, conditionAt};
 ghost use Rattle.forms.specs.Readings.{Ready, FormMet, FormsMet, BranchesMet, Continued};
-
-use super::marks;
-use super::plain;
+use super::CommaRead;
 use super::DotRead;
 use super::FormRead;
 use super::FormsRead;
 use super::MarkRead;
 use super::TestRead;
 use super::Upto;
+use super::marks;
+use super::plain;
 use objects::ObjectRead;
 
 // One part, or several joined by dots. `room` more marks may open.
-pub fn read_form(s: &[u8], at: usize, room: u32, t: &mut [u32], n: usize, u: &mut [u32], c: u32) -> FormRead
+pub fn read_form(
+    s: &[u8],
+    at: usize,
+    room: u32,
+    t: &mut [u32],
+    n: usize,
+    u: &mut [u32],
+    c: u32,
+) -> FormRead
     requires { ⌜ Ready (now s) at n c ⌝ }
     ensures { λ r. ⌜ FormMet n c (now (t .entry)) (now (u .entry)) r (now (t .exit)) (now (u .exit)) (formAt (now (s .entry)) at room) ⌝ }
 {
@@ -33,7 +41,16 @@ pub fn read_form(s: &[u8], at: usize, room: u32, t: &mut [u32], n: usize, u: &mu
 }
 
 // Behind the first dot: the first part's records, from n up to m, move up for the chain's record.
-fn read_chain(s: &[u8], at: usize, room: u32, t: &mut [u32], n: usize, m: usize, u: &mut [u32], c: u32) -> FormRead
+fn read_chain(
+    s: &[u8],
+    at: usize,
+    room: u32,
+    t: &mut [u32],
+    n: usize,
+    m: usize,
+    u: &mut [u32],
+    c: u32,
+) -> FormRead
     requires { ⌜ Ready (now s) at (m + 1) c ⌝ }
     ensures { λ r. ⌜ Continued (chainAt (now (s .entry)) at room) n m c (now (t .entry)) (now (u .entry)) r (now (t .exit)) (now (u .exit)) ⌝ }
 {
@@ -48,7 +65,15 @@ fn read_chain(s: &[u8], at: usize, room: u32, t: &mut [u32], n: usize, m: usize,
 }
 
 // Parts joined by dots.
-fn read_parts(s: &[u8], from: usize, room: u32, t: &mut [u32], first: usize, u: &mut [u32], cell: u32) -> FormsRead
+fn read_parts(
+    s: &[u8],
+    from: usize,
+    room: u32,
+    t: &mut [u32],
+    first: usize,
+    u: &mut [u32],
+    cell: u32,
+) -> FormsRead
     requires { ⌜ Ready (now s) from first cell ⌝ }
     ensures { λ r. ⌜ FormsMet first cell (now (t .entry)) (now (u .entry)) r (now (t .exit)) (now (u .exit)) (partsAt (now (s .entry)) from room) ⌝ }
 {
@@ -73,7 +98,15 @@ fn read_parts(s: &[u8], from: usize, room: u32, t: &mut [u32], first: usize, u: 
 }
 
 // A word, a name, or what begins with a mark that opens.
-fn read_part(s: &[u8], at: usize, room: u32, t: &mut [u32], n: usize, u: &mut [u32], c: u32) -> FormRead
+fn read_part(
+    s: &[u8],
+    at: usize,
+    room: u32,
+    t: &mut [u32],
+    n: usize,
+    u: &mut [u32],
+    c: u32,
+) -> FormRead
     requires { ⌜ Ready (now s) at n c ⌝ }
     ensures { λ r. ⌜ FormMet n c (now (t .entry)) (now (u .entry)) r (now (t .exit)) (now (u .exit)) (partAt (now (s .entry)) at room) ⌝ }
 {
@@ -96,7 +129,15 @@ fn read_part(s: &[u8], at: usize, room: u32, t: &mut [u32], n: usize, u: &mut [u
 }
 
 // Behind a `[`: forms, and the `]`.
-fn read_construct(s: &[u8], at: usize, room: u32, t: &mut [u32], n: usize, u: &mut [u32], c: u32) -> FormRead
+fn read_construct(
+    s: &[u8],
+    at: usize,
+    room: u32,
+    t: &mut [u32],
+    n: usize,
+    u: &mut [u32],
+    c: u32,
+) -> FormRead
     requires { ⌜ Ready (now s) at (n + 1) c ⌝ }
     ensures { λ r. ⌜ FormMet n c (now (t .entry)) (now (u .entry)) r (now (t .exit)) (now (u .exit)) (constructAt (now (s .entry)) at room) ⌝ }
 {
@@ -110,7 +151,15 @@ fn read_construct(s: &[u8], at: usize, room: u32, t: &mut [u32], n: usize, u: &m
 }
 
 // Forms with commas between, and the `]`.
-fn read_forms(s: &[u8], from: usize, room: u32, t: &mut [u32], first: usize, u: &mut [u32], cell: u32) -> FormsRead
+fn read_forms(
+    s: &[u8],
+    from: usize,
+    room: u32,
+    t: &mut [u32],
+    first: usize,
+    u: &mut [u32],
+    cell: u32,
+) -> FormsRead
     requires { ⌜ Ready (now s) from first cell ⌝ }
     ensures { λ r. ⌜ FormsMet first cell (now (t .entry)) (now (u .entry)) r (now (t .exit)) (now (u .exit)) (formsAt (now (s .entry)) from room) ⌝ }
 {
@@ -127,20 +176,32 @@ fn read_forms(s: &[u8], from: usize, room: u32, t: &mut [u32], first: usize, u: 
         let e = x.next;
         n = x.forms;
         c = x.cells;
-        let p = lexer::skip_blanks(s, e);
-        let b = lexer::byte_at(s, p);
-        if b == b']' {
-            return FormsRead::Got(Upto { next: p + 1, forms: n, cells: c }, count);
+        match marks::read_comma(s, e) {
+            CommaRead::More(a) => at = a,
+            CommaRead::Closed(next) => return FormsRead::Got(
+                Upto {
+                    next,
+                    forms: n,
+                    cells: c,
+                },
+                count,
+            ),
+            CommaRead::No(number, place) => return FormsRead::No(number, place),
         }
-        if b != b',' {
-            return FormsRead::No(lexer::refusal(s, p), p);
-        }
-        at = p + 1;
     }
 }
 
 // Behind a `/` (kind 7) or an `@` (kind 8): a part.
-fn read_prefix(kind: u32, s: &[u8], at: usize, room: u32, t: &mut [u32], n: usize, u: &mut [u32], c: u32) -> FormRead
+fn read_prefix(
+    kind: u32,
+    s: &[u8],
+    at: usize,
+    room: u32,
+    t: &mut [u32],
+    n: usize,
+    u: &mut [u32],
+    c: u32,
+) -> FormRead
     requires { ⌜ Ready (now s) at (n + 1) c × (7 ≤ kind) × (kind ≤ 8) ⌝ }
     ensures { λ r. ⌜ FormMet n c (now (t .entry)) (now (u .entry)) r (now (t .exit)) (now (u .exit)) (prefixAt kind (now (s .entry)) at room) ⌝ }
 {
@@ -154,7 +215,15 @@ fn read_prefix(kind: u32, s: &[u8], at: usize, room: u32, t: &mut [u32], n: usiz
 }
 
 // Behind a `{`: a part, a comma, an object and the `}`.
-fn read_bu(s: &[u8], at: usize, room: u32, t: &mut [u32], n: usize, u: &mut [u32], c: u32) -> FormRead
+fn read_bu(
+    s: &[u8],
+    at: usize,
+    room: u32,
+    t: &mut [u32],
+    n: usize,
+    u: &mut [u32],
+    c: u32,
+) -> FormRead
     requires { ⌜ Ready (now s) at (n + 1) c ⌝ }
     ensures { λ r. ⌜ FormMet n c (now (t .entry)) (now (u .entry)) r (now (t .exit)) (now (u .exit)) (buAt (now (s .entry)) at room) ⌝ }
 {
@@ -172,7 +241,15 @@ fn read_bu(s: &[u8], at: usize, room: u32, t: &mut [u32], n: usize, u: &mut [u32
 }
 
 // Behind a `(`: a form and the `)`, or a condition or a loop that begins with it.
-fn read_round(s: &[u8], at: usize, room: u32, t: &mut [u32], n: usize, u: &mut [u32], c: u32) -> FormRead
+fn read_round(
+    s: &[u8],
+    at: usize,
+    room: u32,
+    t: &mut [u32],
+    n: usize,
+    u: &mut [u32],
+    c: u32,
+) -> FormRead
     requires { ⌜ Ready (now s) at (n + 1) c ⌝ }
     ensures { λ r. ⌜ FormMet n c (now (t .entry)) (now (u .entry)) r (now (t .exit)) (now (u .exit)) (roundAt (now (s .entry)) at room) ⌝ }
 {
@@ -184,7 +261,11 @@ fn read_round(s: &[u8], at: usize, room: u32, t: &mut [u32], n: usize, u: &mut [
     let m = x.forms;
     let d = x.cells;
     match marks::read_test(s, e) {
-        TestRead::Closed(next) => FormRead::Got(Upto { next, forms: m, cells: d }),
+        TestRead::Closed(next) => FormRead::Got(Upto {
+            next,
+            forms: m,
+            cells: d,
+        }),
         TestRead::While(a) => read_while(s, a, room, t, n, m, u, d),
         TestRead::Condition(a) => read_condition(s, a, room, t, n, m, u, d),
         TestRead::No(number, place) => FormRead::No(number, place),
@@ -192,7 +273,15 @@ fn read_round(s: &[u8], at: usize, room: u32, t: &mut [u32], n: usize, u: &mut [
 }
 
 // A form and the `)` behind it.
-fn read_closed(s: &[u8], at: usize, room: u32, t: &mut [u32], n: usize, u: &mut [u32], c: u32) -> FormRead
+fn read_closed(
+    s: &[u8],
+    at: usize,
+    room: u32,
+    t: &mut [u32],
+    n: usize,
+    u: &mut [u32],
+    c: u32,
+) -> FormRead
     requires { ⌜ Ready (now s) at n c ⌝ }
     ensures { λ r. ⌜ FormMet n c (now (t .entry)) (now (u .entry)) r (now (t .exit)) (now (u .exit)) (closedAt (now (s .entry)) at room) ⌝ }
 {
@@ -205,12 +294,25 @@ fn read_closed(s: &[u8], at: usize, room: u32, t: &mut [u32], n: usize, u: &mut 
     let d = x.cells;
     match marks::read_mark(s, e, b')') {
         MarkRead::No(number, place) => FormRead::No(number, place),
-        MarkRead::Got(next) => FormRead::Got(Upto { next, forms: m, cells: d }),
+        MarkRead::Got(next) => FormRead::Got(Upto {
+            next,
+            forms: m,
+            cells: d,
+        }),
     }
 }
 
 // Behind `(p?`: the loop's form and the `)`. The records of p, from n up to m, move up for the loop's record.
-fn read_while(s: &[u8], at: usize, room: u32, t: &mut [u32], n: usize, m: usize, u: &mut [u32], c: u32) -> FormRead
+fn read_while(
+    s: &[u8],
+    at: usize,
+    room: u32,
+    t: &mut [u32],
+    n: usize,
+    m: usize,
+    u: &mut [u32],
+    c: u32,
+) -> FormRead
     requires { ⌜ Ready (now s) at (m + 1) c ⌝ }
     ensures { λ r. ⌜ Continued (whileAt (now (s .entry)) at room) n m c (now (t .entry)) (now (u .entry)) r (now (t .exit)) (now (u .exit)) ⌝ }
 {
@@ -225,7 +327,16 @@ fn read_while(s: &[u8], at: usize, room: u32, t: &mut [u32], n: usize, m: usize,
 }
 
 // Behind `(p->`: two forms. The records of p, from n up to m, move up for the condition's record.
-fn read_condition(s: &[u8], at: usize, room: u32, t: &mut [u32], n: usize, m: usize, u: &mut [u32], c: u32) -> FormRead
+fn read_condition(
+    s: &[u8],
+    at: usize,
+    room: u32,
+    t: &mut [u32],
+    n: usize,
+    m: usize,
+    u: &mut [u32],
+    c: u32,
+) -> FormRead
     requires { ⌜ Ready (now s) at (m + 1) c ⌝ }
     ensures { λ r. ⌜ Continued (conditionAt (now (s .entry)) at room) n m c (now (t .entry)) (now (u .entry)) r (now (t .exit)) (now (u .exit)) ⌝ }
 {
@@ -240,7 +351,15 @@ fn read_condition(s: &[u8], at: usize, room: u32, t: &mut [u32], n: usize, m: us
 }
 
 // Two forms with a `;` between, and the `)`.
-fn read_branches(s: &[u8], at: usize, room: u32, t: &mut [u32], n: usize, u: &mut [u32], c: u32) -> FormRead
+fn read_branches(
+    s: &[u8],
+    at: usize,
+    room: u32,
+    t: &mut [u32],
+    n: usize,
+    u: &mut [u32],
+    c: u32,
+) -> FormRead
     requires { ⌜ Ready (now s) at n c ⌝ }
     ensures { λ r. ⌜ BranchesMet n c (now (t .entry)) (now (u .entry)) r (now (t .exit)) (now (u .exit)) (branchesAt (now (s .entry)) at room) ⌝ }
 {

@@ -1,28 +1,28 @@
 -- One definition: a law for each way out of read_body and read_definition, and for each call that they make.
-use Prim.Native.Nat.{ℕ, zero, suc, _+_, _-_, _*_, _≤_, _<_}
+use Prim.Native.Nat.{ℕ, suc, _+_, _-_, _≤_}
 use mathlib.Core.Path.{_≡_, refl, ap, sym, _∙_}
-use mathlib.Core.Bool.{Bool, true, false, cond}
-use mathlib.Core.List.{List, [], _∷_, _++_}
+use mathlib.Core.Bool.{cond}
+use mathlib.Core.List.{List, [], _∷_}
 use native.Mathlib.Omega.{arith}
 use lib.Dec.{eqb}
 use lib.ListN.{length}
 use lib.Seq.{slice}
-use Rattle.language.specs.Forms.{Form, Def, formsIn, constantCells}
+use Rattle.language.specs.Forms.{Form, formsIn, constantCells}
 use Rattle.language.specs.Accepted.{IsName}
 use Rattle.language.specs.Packing.{packed}
-use Rattle.language.specs.Tokens.{placeFrom, sizeAt, byteAt}
+use Rattle.language.specs.Tokens.{placeFrom, sizeAt}
 use Rattle.language.specs.Judging.{Judged, is, isNot, judgeName}
 use Rattle.language.specs.Reading.{Got, got, no, andThen, wordAt, asJudged, mark, markLimit, calls, Placed, definitionAt, readDefinitions}
-use Rattle.theorems.proofs.Outcomes.{Outcome, meets, refusesBy, Meets, refuses, MeetsWord, meetsWord, misspelled, outOfRange, tooLong, meets-then, meets-mark, got-meets, place-on}
+use Rattle.theorems.proofs.Outcomes.{meets, Meets, refuses, MeetsWord, meetsWord, misspelled, outOfRange, tooLong, meets-then, meets-mark, got-meets, place-on}
 use Rattle.theorems.proofs.JudgedWords.{IsNameIn, judged-name}
-use Rattle.theorems.proofs.Refusals.{Ends, first-within}
+use Rattle.theorems.proofs.Refusals.{first-within}
 use Rattle.theorems.proofs.Calls.{definitions-calls}
-use Rattle.lexer.specs.Readings.{Skipped, Sized}
+use Rattle.lexer.specs.Readings.{Sized}
 use Rattle.lexer.specs.Judgements.{nameJudged}
 use Rattle.lexer.specs.Packing.{packed as lexerPacked}
 use Rattle.lexer.specs.declared.NameJudged.{NameJudged}
 use Rattle.lexer.specs.declared.NameJudged.the-variants as N
-use Rattle.formtable.specs.Encoding.{lowOf, highOf, encodeForm, constantsFrom, encodeDefinitions}
+use Rattle.formtable.specs.Encoding.{encodeDefinitions}
 use Rattle.formtable.proofs.Lengths.{length-form, length-constants}
 use Rattle.objects.proofs.Symbols.{packed-is}
 use Rattle.forms.specs.declared.Upto.{Upto}
@@ -32,12 +32,12 @@ use Rattle.forms.specs.declared.FormRead.{FormRead}
 use Rattle.forms.specs.declared.FormRead.the-variants as F
 use Rattle.forms.specs.Readers.{formAt}
 use Rattle.programs.specs.Bodies.{bodyAt, placed, placedAt, definitionsAt}
-use Rattle.forms.specs.Readings.{Ready, Marked, Run, Laid, FormLaid, FormMet, form-read, form-refused}
+use Rattle.forms.specs.Readings.{Ready, Marked, Run, FormLaid, FormMet, form-read, form-refused}
 use Rattle.programs.specs.Definitions.{DefinitionPut, PlacedMet, placed-read, placed-refused}
 use Rattle.forms.proofs.Laying.{run-record}
 use Rattle.forms.proofs.Small.{Small, form-small}
 use Rattle.forms.proofs.Equations.{mark-same, mark-then, wrap}
-use Rattle.forms.proofs.Answers.{GotForm, form-got, form-no, mark-got, mark-no, mark-passed, After, form-after}
+use Rattle.forms.proofs.Answers.{form-got, form-no, mark-got, mark-no, mark-passed, After, form-after}
 
 -- ---- read_body
 module _ (s : List ℕ) (at : ℕ) {q : MarkRead} (i : Marked 61 s at q) where

@@ -1,21 +1,16 @@
 -- Definitions in a row, as read_definitions reads them: those read so far, one more, the end; and a law for each way out.
-use Prim.Native.Nat.{ℕ, zero, suc, _+_, _-_, _*_, _≤_, _<_}
+use Prim.Native.Nat.{ℕ, _+_, _-_, _≤_, _<_}
 use mathlib.Core.Path.{_≡_, refl, ap, sym, _∙_}
-use mathlib.Core.Bool.{Bool, true, false, cond}
-use mathlib.Core.List.{List, [], _∷_, _++_, append-assoc, append-nil, map}
-use native.Mathlib.Nat.{add-zero}
+use mathlib.Core.List.{List, [], _∷_, _++_, append-assoc, append-nil}
 use native.Mathlib.Omega.{arith}
-use mir.Syntax.{w32, w64}
+use mir.Syntax.{w64}
 use mir.Val.{Fits}
-use lib.Dec.{eqb}
 use lib.ListN.{length, length-append}
 use borrow.Author.Tests.{eq-eqb, ne-eqb}
-use Rattle.language.specs.Forms.{Form, Def, Prog, formsIn, formsOf, constantCells, programCells}
+use Rattle.language.specs.Forms.{Prog, formsOf, programCells}
 use Rattle.language.specs.Accepted.{IsName}
 use Rattle.language.specs.Tokens.{placeFrom}
 use Rattle.language.specs.Reading.{Got, got, no, andThen, Placed}
-use Rattle.theorems.proofs.Outcomes.{place-on}
-use Rattle.theorems.proofs.Refusals.{place-within}
 use Rattle.lexer.specs.Readings.{Skipped}
 use Rattle.formtable.specs.Encoding.{encodeForm, constantsFrom, encodeProgram, programConstants, encodeDefinitions}
 use Rattle.formtable.proofs.Lengths.{length-program, length-program-constants}
@@ -23,14 +18,13 @@ use Rattle.formtable.proofs.Appended.{programs-appended, program-constants-appe
 use Rattle.forms.specs.declared.Upto.{Upto}
 use Rattle.forms.specs.declared.FormRead.{FormRead}
 use Rattle.forms.specs.declared.FormRead.the-variants as F
-use Rattle.programs.specs.declared.DefinitionsRead.{DefinitionsRead}
 use Rattle.programs.specs.declared.DefinitionsRead.the-variants as D
 use Rattle.programs.specs.Bodies.{placedAt, definitionsAt}
 use Rattle.forms.specs.Readings.{Ready, Run, Laid}
 use Rattle.programs.specs.Definitions.{programOf, AllNamed, none-named, more-named, PlacedMet, DefinitionsMet, definitions-read, definitions-refused}
 use Rattle.forms.proofs.Laying.{run-none, run-then, run-as}
 use Rattle.forms.proofs.Equations.{then-got}
-use Rattle.programs.proofs.Bodies.{GotPlaced, placed-got, placed-no, definitions-are, definition-after}
+use Rattle.programs.proofs.Bodies.{placed-got, placed-no, definitions-are, definition-after}
 use Rattle.forms.proofs.Answers.{After}
 
 -- the definitions read so far, k of them; reading goes on at `at`

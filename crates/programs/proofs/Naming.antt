@@ -1,21 +1,19 @@
 -- Names that are defined twice: packed names are compared for the names, and the first that is found is the definition's.
-use Prim.Native.Nat.{ℕ, zero, suc, _+_, _-_, _*_, _/_, _%_, _≤_, _<_}
+use Prim.Native.Nat.{ℕ, zero, suc, _+_, _-_, _*_, _≤_, _<_}
 use mathlib.Core.Path.{_≡_, refl, ap, sym, _∙_}
-use mathlib.Core.Bool.{Bool, true, false, cond, _&&_, _||_, and-eq-true-iff}
-use mathlib.Core.List.{List, [], _∷_, _++_, map}
+use mathlib.Core.Bool.{Bool, true, false, cond, _&&_, _||_}
+use mathlib.Core.List.{List, [], _∷_}
 use native.Mathlib.Numerals.{add-one}
 use native.Mathlib.Omega.{arith}
-use mir.Syntax.{w32, w64}
-use mir.Val.{Fits}
 use lib.Dec.{eqb}
 use lib.ListN.{length, getD, drop}
 use borrow.Author.Tests.{eq-eqb, ne-eqb, eqb-true, eqb-false}
 use Rattle.language.specs.Bytes.{sameBytes}
-use Rattle.language.specs.Forms.{Def, Prog, formsIn}
+use Rattle.language.specs.Forms.{Prog, formsIn}
 use Rattle.language.specs.Accepted.{IsName}
 use Rattle.language.specs.Judging.{all, isNameByte}
 use Rattle.language.specs.Packing.{packed}
-use Rattle.language.specs.Reading.{Got, got, no, Placed, isIn, noneTwice}
+use Rattle.language.specs.Reading.{Got, no, Placed, isIn, noneTwice}
 use Rattle.theorems.proofs.JudgedWords.{same-bytes}
 use Rattle.theorems.proofs.Texts.{lower-name, all-cons}
 use Rattle.cells.proofs.Compared.{same-bytes-refl}
@@ -23,13 +21,11 @@ use Rattle.tables.specs.Tables.{put, field}
 use Rattle.tables.proofs.Put.{put-inside}
 use Rattle.formtable.proofs.Lengths.{length-definitions}
 use Rattle.lexer.specs.declared.Case.the-variants.{Lower}
-use Rattle.lexer.specs.Packing.{packed as lexerPacked}
 use Rattle.lexer.proofs.Packed.{packed-injective}
 use Rattle.formtable.specs.Encoding.{lowOf, highOf, encodeDefinitions}
 use Rattle.objects.proofs.Symbols.{packed-is}
-use Rattle.programs.specs.declared.TwiceRead.{TwiceRead}
 use Rattle.programs.specs.declared.TwiceRead.the-variants as T
-use Rattle.programs.specs.Definitions.{AllNamed, none-named, more-named, namesOf, nameAt, placeAt, earlierOf, Listed, SameName, Compared, twiceOf, TwiceMet}
+use Rattle.programs.specs.Definitions.{AllNamed, none-named, more-named, nameAt, placeAt, earlierOf, Listed, SameName, Compared, TwiceMet}
 
 -- ---- names are equal if their numbers are
 name-bytes : (w : List ℕ) → IsName w → (all isNameByte w ≡ true) × (length w ≤ 12)

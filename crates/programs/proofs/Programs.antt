@@ -1,26 +1,24 @@
 -- A whole program: a law for each way out of read_program.
-use Prim.Native.Nat.{ℕ, zero, suc, _+_, _-_, _*_, _≤_, _<_}
+use Prim.Native.Nat.{ℕ, suc, _-_, _≤_, _<_}
 use mathlib.Core.Path.{_≡_, refl, ap, sym, _∙_}
-use mathlib.Core.Bool.{Bool, true, false, cond, _||_}
-use mathlib.Core.List.{List, [], _∷_, _++_, map}
+use mathlib.Core.Bool.{Bool, true, false, _||_}
+use mathlib.Core.List.{List, [], _∷_}
 use native.Mathlib.Omega.{arith}
 use lib.Dec.{ltb}
 use lib.ListN.{length}
 use borrow.Author.Tests.{lt-ltb, le-ltb}
-use Rattle.language.specs.Forms.{Def, Prog, formsOf, programCells}
-use Rattle.language.specs.Reading.{Got, got, no, andThen, Placed, calls, readDefinitions, noneTwice, withinLimits, readProgram}
-use Rattle.tables.specs.Tables.{put}
+use Rattle.language.specs.Forms.{formsOf, programCells}
+use Rattle.language.specs.Reading.{Got, got, no, andThen, Placed, noneTwice, withinLimits, readProgram}
 use Rattle.formtable.specs.Encoding.{encodeProgram, programConstants, encodeDefinitions}
 use Rattle.formtable.proofs.Lengths.{length-program, length-program-constants}
 use Rattle.programs.specs.declared.DefinitionsRead.{DefinitionsRead}
 use Rattle.programs.specs.declared.DefinitionsRead.the-variants as D
 use Rattle.programs.specs.declared.TwiceRead.{TwiceRead}
 use Rattle.programs.specs.declared.TwiceRead.the-variants as T
-use Rattle.programs.specs.declared.ProgramRead.{ProgramRead}
 use Rattle.programs.specs.declared.ProgramRead.the-variants as P
 use Rattle.programs.specs.Bodies.{definitionsAt}
 use Rattle.forms.specs.Readings.{Run, Laid}
-use Rattle.programs.specs.Definitions.{programOf, AllNamed, DefinitionsMet, definitions-read, definitions-refused, Listed, twiceOf, TwiceMet, ProgramLaid, ProgramMet, program-read, program-refused}
+use Rattle.programs.specs.Definitions.{programOf, AllNamed, DefinitionsMet, definitions-read, definitions-refused, Listed, twiceOf, TwiceMet, ProgramMet, program-read, program-refused}
 use Rattle.programs.proofs.Naming.{listed-of}
 
 record GotDefinitions (t u d : List ℕ) (k n c : ℕ) (t′ u′ d′ : List ℕ) (g : Got (List Placed)) : Type 0 where

@@ -2,7 +2,7 @@
 use Prim.Native.Nat.{ℕ}
 use Prim.Native.Char.{code}
 use mathlib.Core.List.{List}
-use Rattle.language.specs.Forms.{Form, Def}
+use Rattle.language.specs.Forms.{Form}
 use Rattle.language.specs.Judging.{judgeName}
 use Rattle.language.specs.Reading.{Got, got, andThen, wordAt, asJudged, mark, markLimit, calls, Placed, readDefinitions}
 use Rattle.forms.specs.Readers.{formAt}

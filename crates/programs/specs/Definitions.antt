@@ -5,7 +5,7 @@ use mathlib.Core.Bool.{Bool, _&&_}
 use mathlib.Core.List.{List, [], _∷_, map}
 use lib.Dec.{eqb}
 use lib.ListN.{length, getD}
-use Rattle.language.specs.Forms.{Form, Def, Prog, formsOf, programCells}
+use Rattle.language.specs.Forms.{Prog, formsOf, programCells}
 use Rattle.language.specs.Accepted.{IsName}
 use Rattle.language.specs.Packing.{packed}
 use Rattle.language.specs.Reading.{Got, got, no, Placed, isIn, noneTwice, calls, readDefinitions}

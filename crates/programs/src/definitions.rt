@@ -7,7 +7,6 @@ ghost use Rattle.language.specs.Reading.{readProgram};
 ghost use Rattle.programs.specs.Bodies.{bodyAt, placedAt, definitionsAt};
 ghost use Rattle.forms.specs.Readings.{Ready, FormMet};
 ghost use Rattle.programs.specs.Definitions.{DefinitionPut, PlacedMet, DefinitionsMet, SameName, Compared, TwiceMet, ProgramMet};
-
 use super::DefinitionsRead;
 use super::ProgramRead;
 use super::TwiceRead;
@@ -34,7 +33,11 @@ fn read_body(s: &[u8], at: usize, t: &mut [u32], n: usize, u: &mut [u32], c: u32
     let d = x.cells;
     match forms::read_mark(s, e, b';') {
         MarkRead::No(number, place) => FormRead::No(number, place),
-        MarkRead::Got(next) => FormRead::Got(Upto { next, forms: m, cells: d }),
+        MarkRead::Got(next) => FormRead::Got(Upto {
+            next,
+            forms: m,
+            cells: d,
+        }),
     }
 }
 
@@ -43,11 +46,27 @@ fn put_definition(d: &mut [u32], k: usize, name: u64, root: usize, place: usize)
     requires { ⌜ (root ≤ 8192) × (place ≤ 8192) ⌝ }
     ensures { λ _. ⌜ DefinitionPut k name root place (now (d .entry)) (now (d .exit)) ⌝ }
 {
-    tables::put_record(d, k, (name % 4294967296) as u32, (name / 4294967296) as u32, root as u32, place as u32);
+    tables::put_record(
+        d,
+        k,
+        (name % 4294967296) as u32,
+        (name / 4294967296) as u32,
+        root as u32,
+        place as u32,
+    );
 }
 
 // The definition whose name is at p, as record k; its body's records from n on.
-fn read_definition(s: &[u8], p: usize, t: &mut [u32], n: usize, u: &mut [u32], c: u32, d: &mut [u32], k: usize) -> FormRead
+fn read_definition(
+    s: &[u8],
+    p: usize,
+    t: &mut [u32],
+    n: usize,
+    u: &mut [u32],
+    c: u32,
+    d: &mut [u32],
+    k: usize,
+) -> FormRead
     requires { ⌜ Ready (now s) p n c ⌝ }
     ensures { λ r. ⌜ PlacedMet n c k (now (t .entry)) (now (u .entry)) (now (d .entry)) r (now (t .exit)) (now (u .exit)) (now (d .exit)) (placedAt (now (s .entry)) p) ⌝ }
 {

@@ -45,10 +45,8 @@ use Rattle.forms.proofs.reader.+read_branches+read_bu+read_chain+read_c
 use Rattle.forms.proofs.reader.read_while.Reads as read-while
 use Rattle.forms.proofs.reader.read_while.Kinds as read-while-kinds
 use Rattle.forms.proofs.reader.+read_branches+read_bu+read_chain+read_closed+read_condition+read_construct+read_form+read_forms+read_part+read_parts+read_prefix+read_round+read_while.Lts-read_while as read-while-lts
-use Rattle.lexer.proofs.byte_at.Reads as byte-at-reads
-use Rattle.lexer.proofs.refusal.Reads as refusal-reads
-use Rattle.lexer.proofs.skip_blanks.Reads as skip-blanks-reads
 use Rattle.forms.proofs.marks.is_opening.Reads as is-opening-reads
+use Rattle.forms.proofs.marks.read_comma.Reads as read-comma-reads
 use Rattle.forms.proofs.marks.read_dot.Reads as read-dot-reads
 use Rattle.forms.proofs.marks.read_mark.Reads as read-mark-reads
 use Rattle.forms.proofs.marks.read_test.Reads as read-test-reads
@@ -56,6 +54,8 @@ use Rattle.forms.proofs.plain.put_bu.Reads as put-bu-reads
 use Rattle.forms.proofs.plain.read_bound.Reads as read-bound-reads
 use Rattle.forms.proofs.plain.read_constant.Reads as read-constant-reads
 use Rattle.forms.proofs.plain.read_plain.Reads as read-plain-reads
+use Rattle.lexer.proofs.byte_at.Reads as byte-at-reads
+use Rattle.lexer.proofs.skip_blanks.Reads as skip-blanks-reads
 use Rattle.tables.proofs.put_record.Reads as put-record-reads
 use Rattle.tables.proofs.shift_up.Reads as shift-up-reads
 use Rattle.forms.proofs.reader.+read_branches+read_bu+read_chain+read_closed+read_condition+read_construct+read_form+read_forms+read_part+read_parts+read_prefix+read_round+read_while.{
@@ -66,7 +66,7 @@ use Rattle.forms.proofs.reader.+read_branches+read_bu+read_chain+read_c
 }
 use Rattle.forms.specs.Readers.{formsAt, partsAt}
 use Rattle.forms.proofs.Chains.{chain-below, chain-is, chain-ready, chain-stops, count-fits, dot-requires, form-chains, form-one, form-stops}
-use Rattle.forms.proofs.Rows.{Going, construct-is, construct-stops, forms-below, forms-count-fits, forms-last, forms-less, forms-next, forms-other, forms-place-fits, forms-stop, parts-below, parts-count-fits, parts-dot-requires, parts-last, parts-less, parts-next, parts-stop, row-starts}
+use Rattle.forms.proofs.Rows.{Going, construct-is, construct-stops, forms-below, forms-comma-requires, forms-count-fits, forms-last, forms-less, forms-next, forms-other, forms-stop, parts-below, parts-count-fits, parts-dot-requires, parts-last, parts-less, parts-next, parts-stop, row-starts}
 use Rattle.forms.proofs.Parts.{bu-bound-requires, bu-is, bu-put-requires, bu-stops, bu-unbound, construct-below, part-apply, part-bu, part-constant, part-construct, part-deep, part-insert, part-plain-out, part-ready, part-round, prefix-below, prefix-is, prefix-stops, round-below}
 use Rattle.forms.proofs.Rounds.{branches-are, branches-open, branches-stops, closed-below, closed-is, closed-open, closed-ready, closed-stops, condition-below, condition-is, condition-ready, condition-stops, form-mark-requires, round-condition, round-is, round-no, round-stops, round-test-requires, round-while, while-below, while-is, while-ready, while-stops}
 
@@ -209,7 +209,7 @@ abbrev read-form-calls : ℕ → read-form-lts.Claims
 read-form-calls t = (read-part-below t, read-part.Post, read-dot-reads.Asked, read-dot-reads.Learnt, read-chain-below t, read-chain.Post)
 
 abbrev read-forms-calls : ℕ → read-forms-lts.Claims
-read-forms-calls t = (read-form-below t, read-form.Post, skip-blanks-reads.Asked, skip-blanks-reads.Learnt, byte-at-reads.Asked, byte-at-reads.Learnt, refusal-reads.Asked, refusal-reads.Learnt)
+read-forms-calls t = (read-form-below t, read-form.Post, read-comma-reads.Asked, read-comma-reads.Learnt)
 
 abbrev read-part-calls : ℕ → read-part-lts.Claims
 read-part-calls t = (skip-blanks-reads.Asked, skip-blanks-reads.Learnt, byte-at-reads.Asked, byte-at-reads.Learnt, is-opening-reads.Asked, is-opening-reads.Learnt, read-plain-reads.Asked, read-plain-reads.Learnt, read-construct-below t, read-construct.Post, read-constant-reads.Asked, read-constant-reads.Learnt, read-prefix-below t, read-prefix.Post, read-bu-below t, read-bu.Post, read-round-below t, read-round.Post)
@@ -562,14 +562,20 @@ read-forms-enum-known-x t c = search needs
 read-forms-add-count : (t : ℕ) → read-forms-lts.Need-add-count (read-forms-calls t) (read-forms-at t) read-forms.Post read-forms-Inv-loop read-forms-μ-loop
 read-forms-add-count t c = search forms-count-fits
 
-read-forms-skip-blanks-requires : (t : ℕ) → read-forms-lts.Need-skip-blanks-requires (read-forms-calls t) (read-forms-at t) read-forms.Post read-forms-Inv-loop read-forms-μ-loop
-read-forms-skip-blanks-requires t c κs = search needs
+read-forms-read-comma-requires : (t : ℕ) → read-forms-lts.Need-read-comma-requires (read-forms-calls t) (read-forms-at t) read-forms.Post read-forms-Inv-loop read-forms-μ-loop
+read-forms-read-comma-requires t c κs = (search needs, search forms-comma-requires)
 
-read-forms-byte-at-requires : (t : ℕ) → read-forms-lts.Need-byte-at-requires (read-forms-calls t) (read-forms-at t) read-forms.Post read-forms-Inv-loop read-forms-μ-loop
-read-forms-byte-at-requires t c κs = search needs
+read-forms-enum-known-a : (t : ℕ) → read-forms-lts.Need-enum-known-a (read-forms-calls t) (read-forms-at t) read-forms.Post read-forms-Inv-loop read-forms-μ-loop
+read-forms-enum-known-a t c = search needs
 
-read-forms-add-t26 : (t : ℕ) → read-forms-lts.Need-add-t26 (read-forms-calls t) (read-forms-at t) read-forms.Post read-forms-Inv-loop read-forms-μ-loop
-read-forms-add-t26 t c = search forms-place-fits
+read-forms-loop-less : (t : ℕ) → read-forms-lts.Need-loop-less (read-forms-calls t) (read-forms-at t) read-forms.Post read-forms-Inv-loop read-forms-μ-loop
+read-forms-loop-less t c = search forms-less
+
+read-forms-loop-again : (t : ℕ) → read-forms-lts.Need-loop-again (read-forms-calls t) (read-forms-at t) read-forms.Post read-forms-Inv-loop read-forms-μ-loop
+read-forms-loop-again t c = search forms-next
+
+read-forms-enum-known-next : (t : ℕ) → read-forms-lts.Need-enum-known-next (read-forms-calls t) (read-forms-at t) read-forms.Post read-forms-Inv-loop read-forms-μ-loop
+read-forms-enum-known-next t c = search needs
 
 read-forms-same-length-3 : (t : ℕ) → read-forms-lts.Need-same-length-3 (read-forms-calls t) (read-forms-at t) read-forms.Post read-forms-Inv-loop read-forms-μ-loop
 read-forms-same-length-3 t c = search needs
@@ -580,8 +586,8 @@ read-forms-same-length-4 t c = search needs
 read-forms-returns-2 : (t : ℕ) → read-forms-lts.Need-returns-2 (read-forms-calls t) (read-forms-at t) read-forms.Post read-forms-Inv-loop read-forms-μ-loop
 read-forms-returns-2 t c = search forms-last
 
-read-forms-refusal-requires : (t : ℕ) → read-forms-lts.Need-refusal-requires (read-forms-calls t) (read-forms-at t) read-forms.Post read-forms-Inv-loop read-forms-μ-loop
-read-forms-refusal-requires t c κs = search needs
+read-forms-enum-known-number-2 : (t : ℕ) → read-forms-lts.Need-enum-known-number-2 (read-forms-calls t) (read-forms-at t) read-forms.Post read-forms-Inv-loop read-forms-μ-loop
+read-forms-enum-known-number-2 t c = search needs
 
 read-forms-same-length-5 : (t : ℕ) → read-forms-lts.Need-same-length-5 (read-forms-calls t) (read-forms-at t) read-forms.Post read-forms-Inv-loop read-forms-μ-loop
 read-forms-same-length-5 t c = search needs
@@ -591,15 +597,6 @@ read-forms-same-length-6 t c = search needs
 
 read-forms-returns-3 : (t : ℕ) → read-forms-lts.Need-returns-3 (read-forms-calls t) (read-forms-at t) read-forms.Post read-forms-Inv-loop read-forms-μ-loop
 read-forms-returns-3 t c = search forms-other
-
-read-forms-add-at : (t : ℕ) → read-forms-lts.Need-add-at (read-forms-calls t) (read-forms-at t) read-forms.Post read-forms-Inv-loop read-forms-μ-loop
-read-forms-add-at t c = search forms-place-fits
-
-read-forms-loop-less : (t : ℕ) → read-forms-lts.Need-loop-less (read-forms-calls t) (read-forms-at t) read-forms.Post read-forms-Inv-loop read-forms-μ-loop
-read-forms-loop-less t c = search forms-less
-
-read-forms-loop-again : (t : ℕ) → read-forms-lts.Need-loop-again (read-forms-calls t) (read-forms-at t) read-forms.Post read-forms-Inv-loop read-forms-μ-loop
-read-forms-loop-again t c = search forms-next
 
 read-part-skip-blanks-requires : (t : ℕ) → read-part-lts.Need-skip-blanks-requires (read-part-calls t) (read-part-at t) read-part.Post
 read-part-skip-blanks-requires t c κs = search needs
@@ -1041,19 +1038,18 @@ pub +read-branches+read-bu+read-chain+read-closed+read-condition+read-construct+
     (read-forms-returns t)
     (read-forms-enum-known-x t)
     (read-forms-add-count t)
-    (read-forms-skip-blanks-requires t)
-    (read-forms-byte-at-requires t)
-    (read-forms-add-t26 t)
+    (read-forms-read-comma-requires t)
+    (read-forms-enum-known-a t)
+    (read-forms-loop-less t)
+    (read-forms-loop-again t)
+    (read-forms-enum-known-next t)
     (read-forms-same-length-3 t)
     (read-forms-same-length-4 t)
     (read-forms-returns-2 t)
-    (read-forms-refusal-requires t)
+    (read-forms-enum-known-number-2 t)
     (read-forms-same-length-5 t)
     (read-forms-same-length-6 t)
-    (read-forms-returns-3 t)
-    (read-forms-add-at t)
-    (read-forms-loop-less t)
-    (read-forms-loop-again t))
+    (read-forms-returns-3 t))
     (λ t. read-part-lts.spec (read-part-calls t) (read-part-at t) read-part.Post
     (read-part-skip-blanks-requires t)
     (read-part-byte-at-requires t)
