@@ -1,20 +1,22 @@
 -- What is encoded stands: a table that goes on with a form's records, and cells that go on with its constants, have the form stand there.
-use Prim.Native.Nat.{ℕ, _+_, _*_, _≤_}
+use Prim.Native.Nat.{ℕ, _+_, _*_, _/_, _%_, _≤_}
 use mathlib.Core.Path.{_≡_, refl, sym, ap, _∙_}
-use mathlib.Core.List.{List, [], _∷_, _++_, append-assoc}
+use mathlib.Core.List.{List, [], _∷_, _++_, append-assoc, append-nil}
 use native.Mathlib.Nat.{add-zero}
 use native.Mathlib.Omega.{arith}
 use lib.ListN.{length, drop, getD}
 use lib.Seq.{getD-drop, drop-drop, drop-append-seam}
-use Rattle.language.specs.Forms.{Form, word, name, chain, construct, constant, insert, applyAll, bu, condition, while, Forms, stop, _&_, _+&_, select, selectRight, op, Prog, count, formsIn, formsInAll, formsOf, constantCells, constantCellsAll, programCells}
-use Rattle.language.specs.Accepted.{IsForm, AreForms, AreDefinitions}
+use Rattle.language.specs.Objects.{Obj, cellsOf}
+use Rattle.language.specs.Forms.{Form, word, name, chain, construct, constant, insert, applyAll, bu, condition, while, Forms, stop, _&_, _+&_, Word, select, selectRight, op, Def, Prog, count, formsIn, formsInAll, formsOf, constantCells, constantCellsAll, programCells}
+use Rattle.language.specs.Accepted.{IsObj, IsForm, AreForms, AreDefinitions}
 use Rattle.language.specs.Packing.{packed}
+use Rattle.language.specs.declared.Val.{Val}
 use Rattle.tables.specs.Tables.{put}
 use Rattle.lexer.specs.Vocabulary.{opCode}
 use Rattle.cells.specs.Encoding.{valOf, cellsFrom}
 use Rattle.cells.proofs.Encoded.{cells-rep}
 use Rattle.formtable.specs.Encoding.{lowOf, highOf, encodeForm, encodeForms, constantsFrom, constantsFromAll, encodeProgram, programConstants}
-use Rattle.formtable.specs.Standing.{kindAt, arityAt, wordAt, row-op, row-select, row-selectRight, row-name, row-chain, row-construct, row-insert, row-applyAll, row-condition, row-while, row-constant, row-bu, Stands, no-form, a-form, bodies}
+use Rattle.formtable.specs.Standing.{kindAt, arityAt, wordAt, parts, Row, row-op, row-select, row-selectRight, row-name, row-chain, row-construct, row-insert, row-applyAll, row-condition, row-while, row-constant, row-bu, Stands, no-form, a-form, bodies}
 use Rattle.formtable.proofs.Lengths.{length-form, length-constants}
 
 -- ---- a table that goes on with l from index i
