@@ -72,7 +72,7 @@ fn has_name(defs: &[u32], d: u32, lo: u32, hi: u32) -> bool
 }
 
 // The record of the body of the name [lo, hi], and one, in the first `count` definitions; 0 if there is none.
-fn root_of(defs: &[u32], count: u32, lo: u32, hi: u32) -> u32
+pub fn root_of(defs: &[u32], count: u32, lo: u32, hi: u32) -> u32
     ensures { λ r. ⌜ r ≡ rootFrom (now (defs .entry)) count lo hi 0 ⌝ }
 {
     let mut d: u32 = 0;

@@ -1,0 +1,4 @@
+pub mod Unlinked
+pub mod Names
+pub mod Roots
+pub mod Mains
