@@ -3,7 +3,7 @@
 ghost use mathlib.Core.Path.{_≡_};
 ghost use Prim.Native.Nat.{_+_, _*_, _/_, _%_, _<_};
 ghost use lib.ListN.{getD};
-ghost use Rattle.linker.specs.Raw.{named, rootFrom, linkSet};
+ghost use Rattle.linker.specs.Roots.{named, rootFrom, linkSet};
 ghost use Rattle.linker.specs.Linking.{Walked, Reversed, OneLinked, AllLinked};
 
 // Where the form at i leads to.

@@ -1,4 +1,3 @@
-pub mod Unlinked
 pub mod Names
 pub mod Roots
 pub mod Mains

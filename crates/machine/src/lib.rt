@@ -1,7 +1,7 @@
 // A program that stands in the tables as it was read is linked, and its main is applied to a value.
 ghost use mathlib.Core.Path.{_≡_};
 ghost use Rattle.language.specs.Bytes.{bytes};
-ghost use Rattle.linker.specs.Raw.{rootIn};
+ghost use Rattle.linker.specs.Roots.{rootIn};
 ghost use Rattle.machine.specs.Mains.{MainApplied};
 use language::Meter;
 use language::Val;
