@@ -1,2 +1,3 @@
 pub mod Trees
+pub mod Records
 pub mod Walks

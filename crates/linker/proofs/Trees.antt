@@ -1,18 +1,12 @@
 -- Linked forms by the records that they take up: what of the table they depend on, and that they are forms as the evaluator reads them.
-use Prim.Native.Nat.{ℕ, zero, suc, _+_, _-_, _*_, _/_, _%_, _≤_, _<_}
+use Prim.Native.Nat.{ℕ, _+_, _*_, _/_, _%_, _≤_, _<_}
 use native.Mathlib.Omega.{arith}
 use mathlib.Core.Path.{_≡_, refl, sym, ap, subst, _∙_}
-use mathlib.Core.List.{List, [], _∷_}
-use lib.ListN.{getD, length}
-use Rattle.language.specs.Objects.{Obj}
-use Rattle.language.specs.Words.{Op}
-use Rattle.language.specs.Forms.{Form, chain, Forms, stop, _&_, _+&_, count}
-use Rattle.language.specs.declared.Val.{Val}
-use Rattle.tables.specs.Tables.{field}
-use Rattle.cells.specs.Cells.{Rep}
+use mathlib.Core.List.{List}
+use lib.ListN.{getD}
+use Rattle.language.specs.Forms.{Form, Forms, stop, _&_, _+&_}
 use Rattle.cells.proofs.Reps.{val-same}
-use Rattle.linker.specs.Linked.{grouped, kindAt, linkAt, constantAt, FormIs, is-op, is-select, is-select-right, is-name, is-chain, is-construct, is-insert, is-all, is-condition, is-while, is-constant, is-bu, FormAt, form-at, PartsAt, no-part, a-part, UpTo, none-yet, one-more}
-use Rattle.linker.specs.Raw.{partsOf}
+use Rattle.linker.specs.Linked.{grouped, kindAt, linkAt, constantAt, is-op, is-select, is-select-right, is-name, is-chain, is-construct, is-insert, is-all, is-condition, is-while, is-constant, is-bu, FormAt, form-at, PartsAt, no-part, a-part, UpTo, none-yet, one-more}
 use Rattle.linker.specs.Linking.{Row, row-op, row-select, row-select-right, row-name, row-construct, row-insert, row-all, row-condition, row-while, row-constant, row-bu, Tree, tree, tree-chain, Kids, no-kid, a-kid, Back, no-back, a-back}
 
 -- the numbers from lo up to hi are as they were

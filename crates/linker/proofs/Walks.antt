@@ -2,21 +2,26 @@
 use Prim.Native.Nat.{ℕ, zero, suc, _+_, _-_, _*_, _/_, _%_, _≤_, _<_}
 use native.Mathlib.Omega.{arith}
 use mathlib.Core.Path.{_≡_, refl, sym, ap, subst, _∙_}
-use mathlib.Core.Bool.{Bool, true, false, cond, _&&_}
-use mathlib.Core.List.{List, [], _∷_}
+use mathlib.Core.Bool.{Bool, true, false, cond}
+use mathlib.Core.List.{List}
 use lib.Dec.{eqb}
 use lib.ListN.{getD, length, set, length-set}
 use lib.Seq.{getD-set-same, getD-set-other}
 use borrow.Author.Tests.{lt-ltb, le-ltb, eq-eqb, ne-eqb}
 use Rattle.language.specs.Packing.{packed}
-use Rattle.language.specs.Forms.{Form, name, chain, construct, Forms, stop, _&_, _+&_, count}
+use Rattle.language.specs.Forms.{Form, name, chain, Forms, stop, _&_, _+&_, count}
+use Rattle.language.specs.Accepted.{IsForm, AreForms}
 use Rattle.tables.specs.Tables.{field}
-use Rattle.cells.specs.Cells.{Rep}
+use Rattle.cells.proofs.Inversions.{tag-low}
+use Rattle.lexer.proofs.Words.{code-below}
+use Rattle.formtable.specs.Standing as S
+use Rattle.formtable.specs.Standing.{parts}
 use Rattle.linker.specs.declared.Turned.{Turned}
-use Rattle.linker.specs.Linked.{grouped, kindAt, linkAt, constantAt}
-use Rattle.linker.specs.Raw.{partsOf, kind, Raw, raw-op, raw-select, raw-select-right, raw-name, raw-chain, raw-construct, raw-insert, raw-all, raw-condition, raw-while, raw-constant, raw-bu, Stands, stands-none, stands-form, named, rootFrom, rootIn, linkSet}
+use Rattle.linker.specs.Linked.{grouped, kindAt, linkAt}
+use Rattle.linker.specs.Roots.{named, rootFrom, rootIn, linkSet}
 use Rattle.linker.specs.Linking.{Row, row-op, row-select, row-select-right, row-name, row-construct, row-insert, row-all, row-condition, row-while, row-constant, row-bu, Tree, tree, tree-chain, Kids, no-kid, a-kid, Back, no-back, a-back, Walked, Before, Reversed, OneLinked, AllLinked}
-use Rattle.linker.proofs.Trees.{Keeps, narrow, forms-end, forms-join, tree-up, kids-up, back-up, tree-small, constant-kept, tree-kept, kids-kept, back-kept}
+use Rattle.linker.proofs.Trees.{Keeps, forms-end, forms-join, tree-up, kids-up, back-up, tree-small, constant-kept, tree-kept, kids-kept, back-kept}
+use Rattle.linker.proofs.Records.{parts-formed, both-formed, stands-up, arity-of, constant-of, row-same}
 
 -- ---- one link set
 link-other : (t : List ℕ) (i link k : ℕ) → (k ≡ i * 4 → ⊥) → getD (linkSet t i link) k 0 ≡ getD t k 0
@@ -143,52 +148,52 @@ unfolding grouped
 kind-16 k a b = let z : k % 32 ≡ k = omega arith in rw (z, le-ltb k 12 (omega arith), le-ltb k 16 a, lt-ltb k 20 b)
 
 -- the same kind in a table whose first number of the record leaves the same
-kind-is : (t u : List ℕ) (i κ : ℕ) → κ < 12 → getD u (i * 4) 0 % 32 ≡ getD t (i * 4) 0 % 32 → kind t i ≡ κ → kindAt u i ≡ κ
+kind-is : (t u : List ℕ) (i κ : ℕ) → κ < 12 → getD u (i * 4) 0 % 32 ≡ getD t (i * 4) 0 % 32 → S.kindAt t i ≡ κ → kindAt u i ≡ κ
 kind-is t u i κ l h e = ap grouped (h ∙ ap (λ (x : ℕ). x % 32) e) ∙ kind-of κ l
 
 -- a record that is no chain and no name says in a linked table what it said
-row-of : {C : List ℕ} {n : ℕ} {root : List ℕ → ℕ} (t u : List ℕ) (i : ℕ) {f : Form} → getD u (i * 4) 0 % 32 ≡ getD t (i * 4) 0 % 32 → Keeps t u (i * 4 + 1) (i * 4 + 4) → (kind t i % 32 ≡ 5 → ⊥) → (kind t i % 32 ≡ 4 → ⊥) → field t i 1 ≡ count (partsOf f) → Raw t C n i f → Row u C n root i f
-row-of t u i h s x y c (raw-op a b) = row-op (kind-is t u i 1 (omega arith) h a) (s .keep (i * 4 + 2) (omega arith) (omega arith) ∙ b)
-row-of t u i h s x y c (raw-select a b) = row-select (kind-is t u i 2 (omega arith) h a) (s .keep (i * 4 + 2) (omega arith) (omega arith) ∙ b)
-row-of t u i h s x y c (raw-select-right a b) = row-select-right (kind-is t u i 3 (omega arith) h a) (s .keep (i * 4 + 2) (omega arith) (omega arith) ∙ b)
-row-of t u i h s x y c (raw-name g a b d) = absurd (y (ap (λ (z : ℕ). z % 32) a))
-row-of t u i h s x y c (raw-chain a) = absurd (x (ap (λ (z : ℕ). z % 32) a))
-row-of t u i h s x y c (raw-construct a) = row-construct (kind-is t u i 6 (omega arith) h a) (s .keep (i * 4 + 1) (omega arith) (omega arith) ∙ c)
-row-of t u i h s x y c (raw-insert a) = row-insert (kind-is t u i 7 (omega arith) h a)
-row-of t u i h s x y c (raw-all a) = row-all (kind-is t u i 8 (omega arith) h a)
-row-of t u i h s x y c (raw-condition a) = row-condition (kind-is t u i 9 (omega arith) h a)
-row-of t u i h s x y c (raw-while a) = row-while (kind-is t u i 10 (omega arith) h a)
-row-of t u i h s x y c (raw-constant {x = o} a b r) = row-constant {x = o} (ap grouped h ∙ kind-12 (kind t i) a b) (rw (constant-kept t u i h s) r)
-row-of t u i h s x y c (raw-bu {f = g} {x = o} a b r) = row-bu {f = g} {x = o} (ap grouped h ∙ kind-16 (kind t i) a b) (rw (constant-kept t u i h s) r)
+row-of : {C : List ℕ} {n : ℕ} {root : List ℕ → ℕ} (t u : List ℕ) (i : ℕ) {f : Form} → getD u (i * 4) 0 % 32 ≡ getD t (i * 4) 0 % 32 → Keeps t u (i * 4 + 1) (i * 4 + 4) → (S.kindAt t i % 32 ≡ 5 → ⊥) → (S.kindAt t i % 32 ≡ 4 → ⊥) → IsForm f → S.Row t C n i f → Row u C n root i f
+row-of t u i h s x y g (S.row-op {o = o} a b c) = let z = code-below o in row-op {o = o} (kind-is t u i 1 (omega arith) h a) (omega (arith, s .keep (i * 4 + 2) (omega arith) (omega arith)))
+row-of t u i h s x y g (S.row-select {k = k} a b c) = row-select {k = k} (kind-is t u i 2 (omega arith) h a) (omega (arith, g .1, s .keep (i * 4 + 2) (omega arith) (omega arith)))
+row-of t u i h s x y g (S.row-selectRight {k = k} a b c) = row-select-right {k = k} (kind-is t u i 3 (omega arith) h a) (omega (arith, g .1, s .keep (i * 4 + 2) (omega arith) (omega arith)))
+row-of t u i h s x y g (S.row-name a b c) = absurd (y (ap (λ (z : ℕ). z % 32) a))
+row-of t u i h s x y g (S.row-chain a b c) = absurd (x (ap (λ (z : ℕ). z % 32) a))
+row-of t u i h s x y g (S.row-construct a b c) = row-construct (kind-is t u i 6 (omega arith) h a) (s .keep (i * 4 + 1) (omega arith) (omega arith) ∙ b)
+row-of t u i h s x y g (S.row-insert a b c) = row-insert (kind-is t u i 7 (omega arith) h a)
+row-of t u i h s x y g (S.row-applyAll a b c) = row-all (kind-is t u i 8 (omega arith) h a)
+row-of t u i h s x y g (S.row-condition a b c) = row-condition (kind-is t u i 9 (omega arith) h a)
+row-of t u i h s x y g (S.row-while a b c) = row-while (kind-is t u i 10 (omega arith) h a)
+row-of t u i h s x y g (S.row-constant {x = o} {v = v} a b c r) = let l = tag-low r in row-constant {x = o} (ap grouped h ∙ kind-12 (S.kindAt t i) (omega arith) (omega arith)) (rw (constant-kept t u i h s) (constant-of t i 12 v refl a c r))
+row-of t u i h s x y g (S.row-bu {f = q} {x = o} {v = v} a b c r) = let l = tag-low r in row-bu {f = q} {x = o} (ap grouped h ∙ kind-16 (S.kindAt t i) (omega arith) (omega arith)) (rw (constant-kept t u i h s) (constant-of t i 16 v refl a c r))
 
 pub one-plain : {t u D : List ℕ} {i many k arity rest : ℕ} → k ≡ getD t (i * 4) 0 → arity ≡ field t i 1 → (k % 32 ≡ 5 → ⊥) → (k % 32 ≡ 4 → ⊥) → Walked t (i + 1) arity rest → u ≡ linkSet t i rest → OneLinked t i D many u
 one-plain {t} {i = i} {rest = rest} ke ae x y w z = rw z (record {
-  means = λ C n f fs e l a b r c k.
-      let p = w .means C n _ (partsOf f) fs e (sym c ∙ sym ae) k in
+  means = λ C n f fs e l a b g r k.
+      let p = w .means C n _ (parts f) fs e (sym (arity-of r) ∙ sym ae) k in
       let up = kids-up (p .0) in
       let up₂ = kids-up (p .1) in
       let h = link-kind t i rest (omega arith) in
       let keep : (lo hi : ℕ) → i * 4 < lo → Keeps t (linkSet t i rest) lo hi = λ lo hi m. record { keep = λ j h₁ h₂. link-other t i rest j (λ h₃. omega arith) } in (
-        a-kid {m = rest} {f = f} {fs = fs} (tree {i = i} {f = f} (omega arith) (row-of t (linkSet t i rest) i h (keep (i * 4 + 1) (i * 4 + 4) (omega arith)) (λ q. x (ap (λ (v : ℕ). v % 32) ke ∙ q)) (λ q. y (ap (λ (v : ℕ). v % 32) ke ∙ q)) c r) (kids-kept (keep ((i + 1) * 4) (rest * 4) (omega arith)) (p .0)))
+        a-kid {m = rest} {f = f} {fs = fs} (tree {i = i} {f = f} (omega arith) (row-of t (linkSet t i rest) i h (keep (i * 4 + 1) (i * 4 + 4) (omega arith)) (λ q. x (ap (λ (v : ℕ). v % 32) ke ∙ q)) (λ q. y (ap (λ (v : ℕ). v % 32) ke ∙ q)) g r) (kids-kept (keep ((i + 1) * 4) (rest * 4) (omega arith)) (p .0)))
             (link-is t i rest (omega arith) (omega arith)) (kids-kept (keep (rest * 4) (e * 4) (omega arith)) (p .1)),
         record { keep = λ j h₁. link-other t i rest j (λ h₃. omega arith) },
       );
 })
 
 -- a chain: its parts turned round, its last part, and then its own link
-chain-of : {C : List ℕ} {n : ℕ} {root : List ℕ → ℕ} (t t₁ : List ℕ) (i : ℕ) (r : Turned) {f : Form} (fs : Forms) (e : ℕ) → i < e → e ≤ 2048 → e * 4 ≤ length t₁ → kind t i % 32 ≡ 5 → Raw t C n i f → Back t₁ C n root 0 (i + 1) (partsOf f) (r .rest) (r .last) → Kids t₁ C n root (r .rest) fs e → Before t t₁ ((i + 1) * 4) → Kids (linkSet (set t₁ (i * 4 + 2) (r .last)) i (r .rest)) C n root i (f & fs) e × Before t (linkSet (set t₁ (i * 4 + 2) (r .last)) i (r .rest)) (i * 4)
-chain-of t t₁ i r fs e l a b k (raw-op q q₂) bk ks bl = absurd (omega arith)
-chain-of t t₁ i r fs e l a b k (raw-select q q₂) bk ks bl = absurd (omega arith)
-chain-of t t₁ i r fs e l a b k (raw-select-right q q₂) bk ks bl = absurd (omega arith)
-chain-of t t₁ i r fs e l a b k (raw-name g q q₂ q₃) bk ks bl = absurd (omega arith)
-chain-of t t₁ i r fs e l a b k (raw-construct q) bk ks bl = absurd (omega arith)
-chain-of t t₁ i r fs e l a b k (raw-insert q) bk ks bl = absurd (omega arith)
-chain-of t t₁ i r fs e l a b k (raw-all q) bk ks bl = absurd (omega arith)
-chain-of t t₁ i r fs e l a b k (raw-condition q) bk ks bl = absurd (omega arith)
-chain-of t t₁ i r fs e l a b k (raw-while q) bk ks bl = absurd (omega arith)
-chain-of t t₁ i r fs e l a b k (raw-constant q q₂ q₃) bk ks bl = absurd (omega arith)
-chain-of t t₁ i r fs e l a b k (raw-bu q q₂ q₃) bk ks bl = absurd (omega arith)
-chain-of {C} {n} {root} t t₁ i r fs e l a b k (raw-chain {fs = gs} q) bk ks bl =
+chain-of : {C : List ℕ} {n : ℕ} {root : List ℕ → ℕ} (t t₁ : List ℕ) (i : ℕ) (r : Turned) {f : Form} (fs : Forms) (e : ℕ) → i < e → e ≤ 2048 → e * 4 ≤ length t₁ → S.kindAt t i % 32 ≡ 5 → S.Row t C n i f → Back t₁ C n root 0 (i + 1) (parts f) (r .rest) (r .last) → Kids t₁ C n root (r .rest) fs e → Before t t₁ ((i + 1) * 4) → Kids (linkSet (set t₁ (i * 4 + 2) (r .last)) i (r .rest)) C n root i (f & fs) e × Before t (linkSet (set t₁ (i * 4 + 2) (r .last)) i (r .rest)) (i * 4)
+chain-of t t₁ i r fs e l a b k (S.row-op q q₂ q₃) bk ks bl = absurd (omega arith)
+chain-of t t₁ i r fs e l a b k (S.row-select q q₂ q₃) bk ks bl = absurd (omega arith)
+chain-of t t₁ i r fs e l a b k (S.row-selectRight q q₂ q₃) bk ks bl = absurd (omega arith)
+chain-of t t₁ i r fs e l a b k (S.row-name q q₂ q₃) bk ks bl = absurd (omega arith)
+chain-of t t₁ i r fs e l a b k (S.row-construct q q₂ q₃) bk ks bl = absurd (omega arith)
+chain-of t t₁ i r fs e l a b k (S.row-insert q q₂ q₃) bk ks bl = absurd (omega arith)
+chain-of t t₁ i r fs e l a b k (S.row-applyAll q q₂ q₃) bk ks bl = absurd (omega arith)
+chain-of t t₁ i r fs e l a b k (S.row-condition q q₂ q₃) bk ks bl = absurd (omega arith)
+chain-of t t₁ i r fs e l a b k (S.row-while q q₂ q₃) bk ks bl = absurd (omega arith)
+chain-of t t₁ i r fs e l a b k (S.row-constant q q₂ q₃ p) bk ks bl = let z = tag-low p in absurd (omega arith)
+chain-of t t₁ i r fs e l a b k (S.row-bu q q₂ q₃ p) bk ks bl = let z = tag-low p in absurd (omega arith)
+chain-of {C} {n} {root} t t₁ i r fs e l a b k (S.row-chain {fs = gs} q q₂ q₃) bk ks bl =
     let t₂ : List ℕ = set t₁ (i * 4 + 2) (r .last) in
     let u : List ℕ = linkSet t₂ i (r .rest) in
     let len : length t₂ ≡ length t₁ = length-set t₁ (i * 4 + 2) (r .last) in
@@ -206,31 +211,33 @@ chain-of {C} {n} {root} t t₁ i r fs e l a b k (raw-chain {fs = gs} q) bk ks bl
 
 pub one-chain : {t t₁ t₂ u D : List ℕ} {i many k arity : ℕ} {r : Turned} → k ≡ getD t (i * 4) 0 → arity ≡ field t i 1 → k % 32 ≡ 5 → Reversed t (i + 1) arity r t₁ → length t₁ ≡ length t → t₂ ≡ set t₁ (i * 4 + 2) (r .last) → u ≡ linkSet t₂ i (r .rest) → OneLinked t i D many u
 one-chain {t} {t₁} {i = i} {r = r} ke ae x w ln z₁ z₂ = rw (z₂, z₁) (record {
-  means = λ C n f fs e l a b raw c k.
-      let p = w .means C n _ (partsOf f) fs e (sym c ∙ sym ae) a b k in
-      chain-of t t₁ i r fs e l a (omega arith) (sym (ap (λ (v : ℕ). v % 32) ke) ∙ x) raw (p .0) (p .1) (p .2);
+  means = λ C n f fs e l a b g row k.
+      let p = w .means C n _ (parts f) fs e (sym (arity-of row) ∙ sym ae) a b k in
+      chain-of t t₁ i r fs e l a (omega arith) (sym (ap (λ (v : ℕ). v % 32) ke) ∙ x) row (p .0) (p .1) (p .2);
 })
 
 -- a name: the root of its body
-name-of : {C : List ℕ} {n : ℕ} (D : List ℕ) (many : ℕ) (t : List ℕ) (i v : ℕ) {f : Form} (fs : Forms) (e : ℕ) → i < e → e ≤ 2048 → e * 4 ≤ length t → kind t i % 32 ≡ 4 → v ≡ rootFrom D many (field t i 2) (field t i 3) 0 → Raw t C n i f → Kids t C n (rootIn D many) (i + 1) (partsOf f +& fs) e → Kids (linkSet (set t (i * 4 + 1) v) i (i + 1)) C n (rootIn D many) i (f & fs) e × Before t (linkSet (set t (i * 4 + 1) v) i (i + 1)) (i * 4)
-name-of D many t i v fs e l a b k ve (raw-op q q₂) ks = absurd (omega arith)
-name-of D many t i v fs e l a b k ve (raw-select q q₂) ks = absurd (omega arith)
-name-of D many t i v fs e l a b k ve (raw-select-right q q₂) ks = absurd (omega arith)
-name-of D many t i v fs e l a b k ve (raw-chain q) ks = absurd (omega arith)
-name-of D many t i v fs e l a b k ve (raw-construct q) ks = absurd (omega arith)
-name-of D many t i v fs e l a b k ve (raw-insert q) ks = absurd (omega arith)
-name-of D many t i v fs e l a b k ve (raw-all q) ks = absurd (omega arith)
-name-of D many t i v fs e l a b k ve (raw-condition q) ks = absurd (omega arith)
-name-of D many t i v fs e l a b k ve (raw-while q) ks = absurd (omega arith)
-name-of D many t i v fs e l a b k ve (raw-constant q q₂ q₃) ks = absurd (omega arith)
-name-of D many t i v fs e l a b k ve (raw-bu q q₂ q₃) ks = absurd (omega arith)
-name-of D many t i v fs e l a b k ve (raw-name {w = w} g q q₂ q₃) ks =
+name-of : {C : List ℕ} {n : ℕ} (D : List ℕ) (many : ℕ) (t : List ℕ) (i v : ℕ) {f : Form} (fs : Forms) (e : ℕ) → i < e → e ≤ 2048 → e * 4 ≤ length t → S.kindAt t i % 32 ≡ 4 → field t i 2 < 4294967296 → v ≡ rootFrom D many (field t i 2) (field t i 3) 0 → IsForm f → S.Row t C n i f → Kids t C n (rootIn D many) (i + 1) (parts f +& fs) e → Kids (linkSet (set t (i * 4 + 1) v) i (i + 1)) C n (rootIn D many) i (f & fs) e × Before t (linkSet (set t (i * 4 + 1) v) i (i + 1)) (i * 4)
+name-of D many t i v fs e l a b k lw ve g (S.row-op q q₂ q₃) ks = absurd (omega arith)
+name-of D many t i v fs e l a b k lw ve g (S.row-select q q₂ q₃) ks = absurd (omega arith)
+name-of D many t i v fs e l a b k lw ve g (S.row-selectRight q q₂ q₃) ks = absurd (omega arith)
+name-of D many t i v fs e l a b k lw ve g (S.row-chain q q₂ q₃) ks = absurd (omega arith)
+name-of D many t i v fs e l a b k lw ve g (S.row-construct q q₂ q₃) ks = absurd (omega arith)
+name-of D many t i v fs e l a b k lw ve g (S.row-insert q q₂ q₃) ks = absurd (omega arith)
+name-of D many t i v fs e l a b k lw ve g (S.row-applyAll q q₂ q₃) ks = absurd (omega arith)
+name-of D many t i v fs e l a b k lw ve g (S.row-condition q q₂ q₃) ks = absurd (omega arith)
+name-of D many t i v fs e l a b k lw ve g (S.row-while q q₂ q₃) ks = absurd (omega arith)
+name-of D many t i v fs e l a b k lw ve g (S.row-constant q q₂ q₃ p) ks = let z = tag-low p in absurd (omega arith)
+name-of D many t i v fs e l a b k lw ve g (S.row-bu q q₂ q₃ p) ks = let z = tag-low p in absurd (omega arith)
+name-of D many t i v fs e l a b k lw ve g (S.row-name {w = w} q q₂ q₃) ks =
     let t₂ : List ℕ = set t (i * 4 + 1) v in
     let u : List ℕ = linkSet t₂ i (i + 1) in
     let len : length t₂ ≡ length t = length-set t (i * 4 + 1) v in
     let up = kids-up ks in
+    let low : field t i 2 ≡ packed w % 4294967296 = omega arith in
+    let high : field t i 3 ≡ packed w / 4294967296 = omega arith in
     let other : (j : ℕ) → (j ≡ i * 4 → ⊥) → (j ≡ i * 4 + 1 → ⊥) → getD u j 0 ≡ getD t j 0 = λ j h₁ h₂. link-other t₂ i (i + 1) j h₁ ∙ getD-set-other t (i * 4 + 1) j v 0 h₂ in
-    let ar : field u i 1 ≡ rootIn D many w = link-other t₂ i (i + 1) (i * 4 + 1) (λ h₃. omega arith) ∙ getD-set-same t (i * 4 + 1) v 0 (omega arith) ∙ ve ∙ ap (λ (x : ℕ). rootFrom D many x (field t i 3) 0) q₂ ∙ ap (λ (x : ℕ). rootFrom D many (packed w % 4294967296) x 0) q₃ in
+    let ar : field u i 1 ≡ rootIn D many w = link-other t₂ i (i + 1) (i * 4 + 1) (λ h₃. omega arith) ∙ getD-set-same t (i * 4 + 1) v 0 (omega arith) ∙ ve ∙ ap (λ (x : ℕ). rootFrom D many x (field t i 3) 0) low ∙ ap (λ (x : ℕ). rootFrom D many (packed w % 4294967296) x 0) high in
     let first : getD t₂ (i * 4) 0 ≡ 4 = getD-set-other t (i * 4 + 1) (i * 4) v 0 (λ h₃. omega arith) ∙ q in
     let kd : getD u (i * 4) 0 % 32 ≡ 4 % 32 = link-kind t₂ i (i + 1) (omega arith) ∙ ap (λ (x : ℕ). x % 32) first in (
       a-kid {m = i + 1} {f = name w} {fs = fs} (tree {i = i} {f = name w} (omega arith) (row-name {w = w} g (ap grouped kd ∙ kind-of 4 (omega arith)) ar) no-kid)
@@ -238,31 +245,13 @@ name-of D many t i v fs e l a b k ve (raw-name {w = w} g q q₂ q₃) ks =
       record { keep = λ j h. other j (λ h₃. omega arith) (λ h₃. omega arith) },
     )
 
-pub one-name : {t t₁ u D : List ℕ} {i many k lo hi v : ℕ} → k ≡ getD t (i * 4) 0 → k % 32 ≡ 4 → lo ≡ field t i 2 → hi ≡ field t i 3 → v ≡ rootFrom D many lo hi 0 → t₁ ≡ set t (i * 4 + 1) v → u ≡ linkSet t₁ i (i + 1) → OneLinked t i D many u
-one-name {t} {D = D} {i} {many} {hi = hi} {v = v} ke x a₂ a₃ ve z₁ z₂ = rw (z₂, z₁) (record {
-  means = λ C n f fs e l a b raw c k.
-      name-of D many t i v fs e l a b (sym (ap (λ (y : ℕ). y % 32) ke) ∙ x) (ve ∙ ap (λ (y : ℕ). rootFrom D many y hi 0) a₂ ∙ ap (λ (y : ℕ). rootFrom D many (field t i 2) y 0) a₃) raw k;
+pub one-name : {t t₁ u D : List ℕ} {i many k lo hi v : ℕ} → k ≡ getD t (i * 4) 0 → k % 32 ≡ 4 → lo ≡ field t i 2 → lo < 4294967296 → hi ≡ field t i 3 → v ≡ rootFrom D many lo hi 0 → t₁ ≡ set t (i * 4 + 1) v → u ≡ linkSet t₁ i (i + 1) → OneLinked t i D many u
+one-name {t} {D = D} {i} {many} {hi = hi} {v = v} ke x a₂ lw a₃ ve z₁ z₂ = rw (z₂, z₁) (record {
+  means = λ C n f fs e l a b g row k.
+      name-of D many t i v fs e l a b (sym (ap (λ (y : ℕ). y % 32) ke) ∙ x) (omega arith) (ve ∙ ap (λ (y : ℕ). rootFrom D many y hi 0) a₂ ∙ ap (λ (y : ℕ). rootFrom D many (field t i 2) y 0) a₃) g row k;
 })
 
 -- ---- all records linked
-raw-kept : {C : List ℕ} {n : ℕ} (t u : List ℕ) (i : ℕ) {f : Form} → ((j : ℕ) → j < i * 4 + 4 → getD u j 0 ≡ getD t j 0) → Raw t C n i f → Raw u C n i f
-raw-kept t u i s (raw-op a b) = raw-op (s (i * 4) (omega arith) ∙ a) (s (i * 4 + 2) (omega arith) ∙ b)
-raw-kept t u i s (raw-select a b) = raw-select (s (i * 4) (omega arith) ∙ a) (s (i * 4 + 2) (omega arith) ∙ b)
-raw-kept t u i s (raw-select-right a b) = raw-select-right (s (i * 4) (omega arith) ∙ a) (s (i * 4 + 2) (omega arith) ∙ b)
-raw-kept t u i s (raw-name {w = w} g a b c) = raw-name {w = w} g (s (i * 4) (omega arith) ∙ a) (s (i * 4 + 2) (omega arith) ∙ b) (s (i * 4 + 3) (omega arith) ∙ c)
-raw-kept t u i s (raw-chain a) = raw-chain (s (i * 4) (omega arith) ∙ a)
-raw-kept t u i s (raw-construct a) = raw-construct (s (i * 4) (omega arith) ∙ a)
-raw-kept t u i s (raw-insert a) = raw-insert (s (i * 4) (omega arith) ∙ a)
-raw-kept t u i s (raw-all a) = raw-all (s (i * 4) (omega arith) ∙ a)
-raw-kept t u i s (raw-condition a) = raw-condition (s (i * 4) (omega arith) ∙ a)
-raw-kept t u i s (raw-while a) = raw-while (s (i * 4) (omega arith) ∙ a)
-raw-kept t u i s (raw-constant {x = o} a b r) =
-    let h = s (i * 4) (omega arith) in
-    raw-constant {x = o} (omega (arith, h)) (omega (arith, h)) (rw (constant-kept t u i (ap (λ (x : ℕ). x % 32) h) (record { keep = λ j h₁ h₂. s j (omega arith) })) r)
-raw-kept t u i s (raw-bu {f = g} {x = o} a b r) =
-    let h = s (i * 4) (omega arith) in
-    raw-bu {f = g} {x = o} (omega (arith, h)) (omega (arith, h)) (rw (constant-kept t u i (ap (λ (x : ℕ). x % 32) h) (record { keep = λ j h₁ h₂. s j (omega arith) })) r)
-
 pub record AllNow (t₀ C : List ℕ) (n : ℕ) (root : List ℕ → ℕ) (total : ℕ) (gs : Forms) (t : List ℕ) (i : ℕ) : Type 0 where
   pub linked : Kids t C n root i gs total
   pub raw : Before t₀ t (i * 4)
@@ -270,20 +259,20 @@ pub record AllNow (t₀ C : List ℕ) (n : ℕ) (root : List ℕ → ℕ) (total
 pub record Linking (t₀ : List ℕ) (total : ℕ) (D : List ℕ) (many : ℕ) (t : List ℕ) (i : ℕ) : Type 0 where
   pub long : length t ≡ length t₀
   pub fits : i ≤ total
-  pub means : (C : List ℕ) (n : ℕ) (gs : Forms) → total ≤ 2048 → total * 4 ≤ length t₀ → Stands t₀ C n total i gs → AllNow t₀ C n (rootIn D many) total gs t i
+  pub means : (C : List ℕ) (n : ℕ) (gs : Forms) → total ≤ 2048 → total * 4 ≤ length t₀ → AreForms gs → S.Stands t₀ C n i gs total → AllNow t₀ C n (rootIn D many) total gs t i
 
-start-kids : {t C : List ℕ} {n : ℕ} {root : List ℕ → ℕ} {total i : ℕ} {gs : Forms} → i ≡ total → Stands t C n total i gs → Kids t C n root i gs total
-start-kids e stands-none = no-kid
-start-kids e (stands-form l r c s) = absurd (omega arith)
+start-kids : {t C : List ℕ} {n : ℕ} {root : List ℕ → ℕ} {total i : ℕ} {gs : Forms} → i ≡ total → S.Stands t C n i gs total → Kids t C n root i gs total
+start-kids e S.no-form = no-kid
+start-kids e (S.a-form r s) = let up = stands-up s in absurd (omega arith)
 
 pub link-start : {t D : List ℕ} {total many : ℕ} → Linking t total D many t total
-link-start = record { long = refl; fits = omega arith; means = λ C n gs a b s. record { linked = start-kids refl s; raw = record { keep = λ j h. refl } } }
+link-start = record { long = refl; fits = omega arith; means = λ C n gs a b g s. record { linked = start-kids refl s; raw = record { keep = λ j h. refl } } }
 
-step-link : {t₀ t u D C : List ℕ} {n total many i : ℕ} {gs : Forms} → i < total → total ≤ 2048 → total * 4 ≤ length t → ((hs : Forms) → Stands t₀ C n total (i + 1) hs → AllNow t₀ C n (rootIn D many) total hs t (i + 1)) → OneLinked t i D many u → Stands t₀ C n total i gs → AllNow t₀ C n (rootIn D many) total gs u i
-step-link l a b h o stands-none = absurd (omega arith)
-step-link {t₀} {t} {C = C} {n} {total} {i = i} l a b h o (stands-form {f = f} {fs = fs} l₂ r c s) =
-    let p = h (partsOf f +& fs) s in
-    let q = o .means C n f fs total l a b (raw-kept t₀ t i (λ j h₁. p .raw .keep j (omega arith)) r) (p .raw .keep (i * 4 + 1) (omega arith) ∙ c) (p .linked) in
+step-link : {t₀ t u D C : List ℕ} {n total many i : ℕ} {gs : Forms} → i < total → total ≤ 2048 → total * 4 ≤ length t → ((hs : Forms) → AreForms hs → S.Stands t₀ C n (i + 1) hs total → AllNow t₀ C n (rootIn D many) total hs t (i + 1)) → OneLinked t i D many u → AreForms gs → S.Stands t₀ C n i gs total → AllNow t₀ C n (rootIn D many) total gs u i
+step-link l a b h o g S.no-form = absurd (omega arith)
+step-link {t₀} {t} {C = C} {n} {total} {i = i} l a b h o g (S.a-form {f = f} {fs = fs} r s) =
+    let p = h (parts f +& fs) (both-formed (parts f) fs (parts-formed f (g .0)) (g .1)) s in
+    let q = o .means C n f fs total l a b (g .0) (row-same t₀ t i (λ j h₁. p .raw .keep j (omega arith)) r) (p .linked) in
     record { linked = q .0; raw = record { keep = λ j h₁. q .1 .keep j h₁ ∙ p .raw .keep j (omega arith) } }
 
 pub link-next : {t₀ t u D : List ℕ} {total many i : ℕ} → 0 < i → Linking t₀ total D many t i → OneLinked t (i - 1) D many u → length u ≡ length t → Linking t₀ total D many u (i - 1)
@@ -292,13 +281,13 @@ link-next {t₀} {t} {D = D} {total} {many} {i} z w o ln =
     record {
       long = ln ∙ w .long;
       fits = omega (arith, w .fits);
-      means = λ C n gs a b s. step-link (omega (arith, w .fits)) a (omega (arith, w .long)) (λ hs st. subst (λ (j : ℕ). AllNow t₀ C n (rootIn D many) total hs t j) (sym y) (w .means C n hs a b (subst (λ (j : ℕ). Stands t₀ C n total j hs) y st))) o s;
+      means = λ C n gs a b g s. step-link (omega (arith, w .fits)) a (omega (arith, w .long)) (λ hs k st. subst (λ (j : ℕ). AllNow t₀ C n (rootIn D many) total hs t j) (sym y) (w .means C n hs a b k (subst (λ (j : ℕ). S.Stands t₀ C n j hs total) y st))) o g s;
     }
 
 pub link-end : {t₀ t D : List ℕ} {total many i : ℕ} → i ≤ 0 → Linking t₀ total D many t i → AllLinked t₀ total D many t
 link-end {t₀} {t} {D} {total} {many} {i} z w =
     let y : i ≡ 0 = omega arith in
-    record { means = λ C n fs a b s. subst (λ (j : ℕ). Kids t C n (rootIn D many) j fs total) y (w .means C n fs a b (subst (λ (j : ℕ). Stands t₀ C n total j fs) (sym y) s) .linked) }
+    record { means = λ C n fs a b g s. subst (λ (j : ℕ). Kids t C n (rootIn D many) j fs total) y (w .means C n fs a b g (subst (λ (j : ℕ). S.Stands t₀ C n j fs total) (sym y) s) .linked) }
 
 -- ---- the root of a name
 pub name-no : (D : List ℕ) (d lo hi a : ℕ) → a ≡ getD D (d * 4) 0 → (a ≡ lo → ⊥) → false ≡ named D d lo hi

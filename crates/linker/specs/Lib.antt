@@ -1,3 +1,3 @@
 pub mod Linked
-pub mod Raw
+pub mod Roots
 pub mod Linking

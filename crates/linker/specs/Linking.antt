@@ -1,17 +1,19 @@
 -- Linked forms with the records that they take up, and what the link pass does.
-use Prim.Native.Nat.{ℕ, zero, suc, _+_, _*_, _/_, _%_, _≤_, _<_}
+use Prim.Native.Nat.{ℕ, _+_, _*_, _≤_, _<_}
 use mathlib.Core.Path.{_≡_}
-use mathlib.Core.List.{List, [], _∷_}
+use mathlib.Core.List.{List}
 use lib.ListN.{getD, length}
 use Rattle.language.specs.Objects.{Obj}
 use Rattle.language.specs.Words.{Op}
 use Rattle.language.specs.Forms.{op, select, selectRight, Form, word, name, chain, construct, constant, insert, applyAll, bu, condition, while, Forms, stop, _&_, _+&_, count}
-use Rattle.language.specs.Accepted.{IsName}
+use Rattle.language.specs.Accepted.{IsName, IsForm, AreForms}
 use Rattle.tables.specs.Tables.{field}
 use Rattle.cells.specs.Cells.{Rep}
 use Rattle.lexer.specs.Vocabulary.{opCode}
+use Rattle.formtable.specs.Standing as S
+use Rattle.formtable.specs.Standing.{parts}
 use Rattle.linker.specs.Linked.{kindAt, linkAt, constantAt}
-use Rattle.linker.specs.Raw.{partsOf, Raw, Stands, rootIn}
+use Rattle.linker.specs.Roots.{rootIn}
 use Rattle.linker.specs.declared.Turned.{Turned}
 
 -- what a linked record says of a form that is no chain
@@ -31,7 +33,7 @@ pub data Row (F C : List ℕ) (n : ℕ) (root : List ℕ → ℕ) (i : ℕ) : Fo
 mutual
   -- a form in the records from i up to e
   pub data Tree (F C : List ℕ) (n : ℕ) (root : List ℕ → ℕ) : ℕ → Form → ℕ → Type 0 where
-    tree : {i e : ℕ} {f : Form} → i < 2048 → Row F C n root i f → Kids F C n root (i + 1) (partsOf f) e → Tree F C n root i f e
+    tree : {i e : ℕ} {f : Form} → i < 2048 → Row F C n root i f → Kids F C n root (i + 1) (parts f) e → Tree F C n root i f e
     tree-chain : {i e : ℕ} {fs : Forms} → i < 2048 → kindAt F i ≡ 5 → Back F C n root 0 (i + 1) fs e (field F i 2) → Tree F C n root i (chain fs) e
 
   -- forms from j up to e, one behind the other, each leading to what follows it
@@ -56,8 +58,10 @@ pub record Before (t u : List ℕ) (k : ℕ) : Type 0 where
 pub record Reversed (t : List ℕ) (start q : ℕ) (r : Turned) (u : List ℕ) : Type 0 where
   pub means : (C : List ℕ) (n : ℕ) (root : List ℕ → ℕ) (gs fs : Forms) (e : ℕ) → count gs ≡ q → e ≤ 2048 → e * 4 ≤ length t → Kids t C n root start (gs +& fs) e → Back u C n root 0 start gs (r .rest) (r .last) × Kids u C n root (r .rest) fs e × Before t u (start * 4)
 
+-- record i linked, where its parts and all that follows them are
 pub record OneLinked (t : List ℕ) (i : ℕ) (D : List ℕ) (many : ℕ) (u : List ℕ) : Type 0 where
-  pub means : (C : List ℕ) (n : ℕ) (f : Form) (fs : Forms) (e : ℕ) → i < e → e ≤ 2048 → e * 4 ≤ length t → Raw t C n i f → field t i 1 ≡ count (partsOf f) → Kids t C n (rootIn D many) (i + 1) (partsOf f +& fs) e → Kids u C n (rootIn D many) i (f & fs) e × Before t u (i * 4)
+  pub means : (C : List ℕ) (n : ℕ) (f : Form) (fs : Forms) (e : ℕ) → i < e → e ≤ 2048 → e * 4 ≤ length t → IsForm f → S.Row t C n i f → Kids t C n (rootIn D many) (i + 1) (parts f +& fs) e → Kids u C n (rootIn D many) i (f & fs) e × Before t u (i * 4)
 
+-- the first `total` records linked: the forms that stood there are linked, each name by the first `many` definitions
 pub record AllLinked (t : List ℕ) (total : ℕ) (D : List ℕ) (many : ℕ) (u : List ℕ) : Type 0 where
-  pub means : (C : List ℕ) (n : ℕ) (fs : Forms) → total ≤ 2048 → total * 4 ≤ length t → Stands t C n total 0 fs → Kids u C n (rootIn D many) 0 fs total
+  pub means : (C : List ℕ) (n : ℕ) (fs : Forms) → total ≤ 2048 → total * 4 ≤ length t → AreForms fs → S.Stands t C n 0 fs total → Kids u C n (rootIn D many) 0 fs total

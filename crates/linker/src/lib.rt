@@ -3,7 +3,7 @@
 ghost use mathlib.Core.Path.{_≡_};
 ghost use Prim.Native.Nat.{_+_, _*_, _/_, _%_, _<_};
 ghost use lib.ListN.{getD};
-ghost use Rattle.linker.specs.Raw.{named, rootFrom, linkSet};
+ghost use Rattle.linker.specs.Roots.{named, rootFrom, linkSet};
 ghost use Rattle.linker.specs.Linking.{Walked, Reversed, OneLinked, AllLinked};
 
 // Where the form at i leads to.
@@ -72,7 +72,7 @@ fn has_name(defs: &[u32], d: u32, lo: u32, hi: u32) -> bool
 }
 
 // The record of the body of the name [lo, hi], and one, in the first `count` definitions; 0 if there is none.
-fn root_of(defs: &[u32], count: u32, lo: u32, hi: u32) -> u32
+pub fn root_of(defs: &[u32], count: u32, lo: u32, hi: u32) -> u32
     ensures { λ r. ⌜ r ≡ rootFrom (now (defs .entry)) count lo hi 0 ⌝ }
 {
     let mut d: u32 = 0;

@@ -1,0 +1,25 @@
+-- Where the body of a name begins, by the table of definitions; and a record's link.
+use Prim.Native.Nat.{ℕ, zero, suc, _+_, _*_, _/_, _%_}
+use mathlib.Core.Bool.{Bool, cond, _&&_}
+use mathlib.Core.List.{List}
+use lib.Dec.{eqb}
+use lib.ListN.{getD, set}
+use Rattle.language.specs.Packing.{packed}
+use Rattle.tables.specs.Tables.{field}
+
+-- whether definition d, [lo, hi, root, place], has this name
+unfoldable pub named : List ℕ → ℕ → ℕ → ℕ → Bool
+named D d lo hi = eqb (getD D (d * 4) 0) lo && eqb (field D d 1) hi
+
+-- the first of the definitions, `left` of them from d on, that has this name: its root and one; 0 for none
+unfoldable pub rootFrom : List ℕ → ℕ → ℕ → ℕ → ℕ → ℕ
+rootFrom D zero lo hi d = 0
+rootFrom D (suc left) lo hi d = cond (named D d lo hi) ((field D d 2 + 1) % 4294967296) (rootFrom D left lo hi (d + 1))
+
+-- of a name, by how it is packed
+abbrev pub rootIn : List ℕ → ℕ → List ℕ → ℕ
+rootIn D count w = rootFrom D count (packed w % 4294967296) (packed w / 4294967296) 0
+
+-- record i leads to another
+abbrev pub linkSet : List ℕ → ℕ → ℕ → List ℕ
+linkSet t i link = set t (i * 4) (getD t (i * 4) 0 % 32 + 32 * (link % 134217728))
