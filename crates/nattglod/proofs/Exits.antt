@@ -2,18 +2,18 @@
 use Prim.Native.Nat.{ℕ, suc, _+_, _-_, _*_, _≤_, _<_}
 use mathlib.Core.Path.{_≡_, refl, ap, sym, _∙_}
 use mathlib.Core.Bool.{Bool, true, false, cond, _||_, not}
-use mathlib.Core.List.{List, _++_}
+use mathlib.Core.List.{List}
 use native.Mathlib.Omega.{arith}
 use borrow.Author.Tests.{ltb-false, eqb-true, not-false, le-leb, lt-leb}
-use lib.Dec.{leb, ltb, eqb}
-use lib.ListN.{length, drop, replicate}
+use lib.Dec.{ltb, eqb}
+use lib.ListN.{length, replicate}
 use Rattle.language.specs.Objects.{Obj, cellsOf}
 use Rattle.language.specs.Forms.{Prog, programCells, mainForm}
 use Rattle.language.specs.Reading.{Got, got, no, readObject, readProgram}
 use Rattle.language.specs.Writing.{writeObj, Scan, on, short, deep, scan}
 use Rattle.language.specs.Meanings.{one}
-use Rattle.language.specs.Evaluation.{Out, value, bottom, spent, Spent, apply, RunEnd, done, fell, ranOut, tooFew, counted, run}
-use Rattle.language.specs.Answers.{Lent, Outcome, bare, at, counting, untouched, zeroed, roomIn, scanned, spentNumber, ended, onRead, runCall}
+use Rattle.language.specs.Evaluation.{apply, RunEnd, done, fell, ranOut, tooFew, counted, run}
+use Rattle.language.specs.Answers.{Lent, Outcome, bare, at, untouched, zeroed, roomIn, scanned, ended, onRead, runCall}
 use Rattle.language.specs.declared.Meter.{Meter}
 use Rattle.language.specs.declared.Answer.{Answer}
 use Rattle.nattglod.specs.Calls.{budgets, lends, RunAnswered, earlyRefusal, Sized, onTexts, TextsAnswered, EndAnswered}
@@ -96,11 +96,11 @@ module _ (lent : Lent) where
 
 -- ---- the whole call, by its early refusal k
 module _ (program object : List ℕ) (b : Meter) (forms cells output : List ℕ) {k : ℕ} (is-early : k ≡ earlyRefusal (length program) (length object) b (length forms) (length cells)) where
-  pub run-refused : (k ≡ 0 → ⊥) → RunAnswered program object b (lends forms cells output) (bare k) forms cells output
-  run-refused n =
+  pub run-refused : {r : Answer} → (k ≡ 0 → ⊥) → r ≡ bare k → RunAnswered program object b (lends forms cells output) r forms cells output
+  run-refused n a =
       let e = rw (← is-early) at (by-early program object b (lends forms cells output) .0) in
       let o = e n in
-      record { answer = ap (λ (x : Outcome). x .answer) (sym o); formsAfter = ap (λ (x : Outcome). x .lent .forms) (sym o); cellsAfter = ap (λ (x : Outcome). x .lent .cells) (sym o); outputAfter = ap (λ (x : Outcome). x .lent .output) (sym o) }
+      record { answer = a ∙ ap (λ (x : Outcome). x .answer) (sym o); formsAfter = ap (λ (x : Outcome). x .lent .forms) (sym o); cellsAfter = ap (λ (x : Outcome). x .lent .cells) (sym o); outputAfter = ap (λ (x : Outcome). x .lent .output) (sym o) }
 
   module _ (none : k ≡ 0) where
     pub run-sized : Sized (length program) (length object) b (length forms) (length cells)

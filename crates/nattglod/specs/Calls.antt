@@ -1,12 +1,10 @@
 -- A run call: what it answers and leaves in the lent buffers, and the parts that its code is made of.
-use Prim.Native.Nat.{ℕ, _+_, _*_, _≤_}
+use Prim.Native.Nat.{ℕ, _*_, _≤_}
 use mathlib.Core.Path.{_≡_}
 use mathlib.Core.Bool.{cond, _||_, not}
 use mathlib.Core.List.{List}
 use lib.Dec.{ltb, eqb}
-use lib.ListN.{length}
 use Rattle.language.specs.Objects.{Obj}
-use Rattle.language.specs.Forms.{Prog}
 use Rattle.language.specs.Reading.{readObject, readProgram}
 use Rattle.language.specs.Meanings.{one}
 use Rattle.language.specs.Evaluation.{Out, counted, run}

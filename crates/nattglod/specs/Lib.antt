@@ -1,2 +1,3 @@
 -- The definitions that the contracts of nattglod cite.
 pub mod Calls
+pub mod Stages

@@ -1,0 +1,78 @@
+// The calls themselves: 1 to 5 touch nothing, and after all other answers both tables are zero throughout.
+ghost use mathlib.Core.Path.{_≡_};
+ghost use lib.ListN.{length};
+ghost use Rattle.nattglod.specs.Calls.{budgets, lends, RunAnswered, earlyRefusal};
+ghost use Rattle.nattglod.specs.Stages.{tableRefusal};
+use super::answers;
+use super::texts;
+use language::Answer;
+use language::Meter;
+
+// 5 if there are too many cells or a table has another length, else 0.
+fn table_refusal(budget: u32, forms: usize, cells: usize) -> u32
+    ensures { λ r. ⌜ r ≡ tableRefusal budget forms cells ⌝ }
+{
+    if 4096 < budget {
+        return 5;
+    }
+    if forms != 8192 {
+        return 5;
+    }
+    if cells != 4 * budget as usize {
+        return 5;
+    }
+    0
+}
+
+// 1 to 5, by lengths and budgets; 0 if none of them.
+fn early_refusal(program: usize, object: usize, b: Meter, forms: usize, cells: usize) -> u32
+    ensures { λ r. ⌜ r ≡ earlyRefusal program object b forms cells ⌝ }
+{
+    if 8192 < program {
+        return 1;
+    }
+    if 16384 < object {
+        return 2;
+    }
+    if 1000000 < b.steps {
+        return 3;
+    }
+    if 256 < b.names {
+        return 4;
+    }
+    table_refusal(b.cells, forms, cells)
+}
+
+// Runs a program on an object: the form table has 8,192 numbers and the cell table four to each budgeted cell.
+pub fn run(
+    program: &[u8],
+    object: &[u8],
+    steps: u32,
+    names: u32,
+    cells: u32,
+    forms: &mut [u32],
+    cell_table: &mut [u32],
+    output: &mut [u8],
+) -> Answer
+    ensures { λ r. ⌜ RunAnswered (now (program .entry)) (now (object .entry)) (budgets steps names cells) (lends (now (forms .entry)) (now («cell_table» .entry)) (now (output .entry))) r (now (forms .exit)) (now («cell_table» .exit)) (now (output .exit)) ⌝ }
+{
+    let b = Meter {
+        steps,
+        names,
+        cells,
+    };
+    let refusal = early_refusal(
+        program.len(),
+        object.len(),
+        b,
+        forms.len(),
+        cell_table.len(),
+    );
+    if refusal != 0 {
+        return answers::bare(refusal);
+    }
+    let answer = texts::answer_texts(program, object, b, forms, cell_table, output);
+    tables::zero_all(forms);
+    tables::zero_all(cell_table);
+    answer
+}
