@@ -1,0 +1,2 @@
+-- The definitions that the contracts of fprun cite.
+pub mod Replies
