@@ -46,8 +46,10 @@ def made_texts():
     yield 1, b'a=id;b=tl;b=id;a=id;'
     long_program = b'main=%<' + b','.join([b'7'] * 4091) + b'>;'
     yield 1, long_program + b' ' * (8192 - len(long_program))
-    long_object = b'<' + b','.join([b'1'] * 8190) + b'>'
+    long_object = b'<' + b','.join([b'1'] * 8191) + b'>'
     yield 2, long_object + b' ' * (16384 - len(long_object))
+    yield 1, long_program + b' ' * (8193 - len(long_program))
+    yield 2, long_object + b' ' * (16385 - len(long_object))
     yield 2, b'<' + b',' * 8190
     yield 2, b'ABCDEFGHIJKL'
     yield 2, b'ABCDEFGHIJKLM'

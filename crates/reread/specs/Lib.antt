@@ -1,0 +1,2 @@
+-- The definitions that the contracts of reread cite.
+pub mod Rereading
