@@ -17,7 +17,7 @@ use Rattle.sequences.proofs.Parts.{append-nil, append-more, length-appe
 
 -- ---- one place
 -- a sequence's value is its first cell's link and its length
-as-sequence : {C : List ℕ} {n : ℕ} {s : Val} (ys : Objs) → n < 4294967296 → Rep C n s (seq ys) → s ≡ sequenceVal (s .word % 4294967296) (lengthOf ys)
+pub as-sequence : {C : List ℕ} {n : ℕ} {s : Val} (ys : Objs) → n < 4294967296 → Rep C n s (seq ys) → s ≡ sequenceVal (s .word % 4294967296) (lengthOf ys)
 as-sequence {s = s} nil h (rep-nil t w) = val-same s (sequenceVal (s .word % 4294967296) 0) t (omega arith)
 as-sequence {s = s} (y :: ys) h (rep-more t w l a b) = val-same s (sequenceVal (s .word % 4294967296) (suc (lengthOf ys))) t (omega arith)
 
@@ -74,37 +74,6 @@ stands-as {C} {C′} {p} {n} {r = r} e s = subst (λ (t : Objs). Stands C p n t 
 
 pub nil-rep : {C : List ℕ} {n : ℕ} {v : Val} → v ≡ sequenceVal 0 0 → Rep C n v (seq nil)
 nil-rep {C} {n} e = rw e (rep-nil refl refl)
-
--- ---- the first places of a sequence
-pub record Prepending (C₀ : List ℕ) (v : Val) (n p : ℕ) (rest : Val) (C : List ℕ) (left : ℕ) (s : Val) (free : ℕ) : Type 0 where
-  pub sum : free + left ≡ p + n
-  pub most : left ≤ n
-  pub fits : p + n < 4294967296
-  pub len : length C ≡ length C₀
-  pub means : (xs ys : Objs) → n ≤ lengthOf xs → Space C₀ p n → Rep C₀ p v (seq xs) → Rep C₀ p rest (seq ys) → Building C₀ p (takeObjs n xs) ys C left s free
-
-pub prepend-far : {C C′ : List ℕ} {n p : ℕ} {v rest r : Val} → 4294967295 - p < n → Prepended C v n p rest r C′
-prepend-far h = record { means = λ xs ys l e rv rr. absurd (omega (arith, e .far)) }
-
-pub prepend-start : {C : List ℕ} {n p : ℕ} {v rest : Val} → n ≤ 4294967295 - p → p < 4294967296 → Prepending C v n p rest C n rest p
-prepend-start {n = n} h u = record { sum = refl; most = omega arith; fits = omega arith; len = refl; means = λ xs ys l e rv rr. build-start (takeObjs n xs) ys (take-length n xs l) rr }
-
-prepend-step : {C₀ C C′ : List ℕ} {n p left free : ℕ} {v rest s x r : Val} (q : ℕ) → left ≡ suc q → Prepending C₀ v n p rest C left s free → Nth C v q x → Before C free x s r C′ → length C′ ≡ length C → Prepending C₀ v n p rest C′ q r (free + 1)
-prepend-step {C₀} {C} {C′} {n} {p} {left} {free} {v} {rest} {s} {x} {r} q z g t b e = record { sum = omega (arith, g .sum); most = omega (arith, g .most); fits = g .fits; len = e ∙ g .len; means = go }
-  where
-    go : (xs ys : Objs) → n ≤ lengthOf xs → Space C₀ p n → Rep C₀ p v (seq xs) → Rep C₀ p rest (seq ys) → Building C₀ p (takeObjs n xs) ys C′ q r (free + 1)
-    go xs ys l sp rv rr =
-        let m = g .means xs ys l sp rv rr in
-        let u : free < 4294967296 = omega (arith, g .sum, g .fits) in
-        let i : q < n = omega (arith, g .most) in
-        let y = t .means free xs u (omega arith) (rep-ext (m .same) (omega (arith, g .sum, g .most)) rv) in
-        build-step q (omega (arith, take-length n xs l)) (omega (arith, g .sum, g .most)) (omega arith) (same-refl C free) (rw (nth-take q n xs i l) y) (record { far = omega (arith, g .sum, g .fits); long = omega (arith, g .sum, g .len, sp .long) }) b (rw z at m)
-
-pub prepend-next : {C₀ C C′ : List ℕ} {n p left free : ℕ} {v rest s x r : Val} → 0 < left → Prepending C₀ v n p rest C left s free → Nth C v (left - 1) x → Before C free x s r C′ → length C′ ≡ length C → Prepending C₀ v n p rest C′ (left - 1) r (free + 1)
-prepend-next {left = left} h g t b e = prepend-step (left - 1) (omega arith) g t b e
-
-pub prepend-end : {C₀ C : List ℕ} {n p left free : ℕ} {v rest s : Val} → left ≤ 0 → Prepending C₀ v n p rest C left s free → Prepended C₀ v n p rest s C
-prepend-end {n = n} h g = record { means = λ xs ys l sp rv rr. build-end n (omega arith) (omega (arith, g .sum)) (g .means xs ys l sp rv rr) }
 
 -- ---- without the last place
 pub last-none : {C : List ℕ} {v : Val} {n p : ℕ} → n ≡ 0 → Built allButLast C v n p v C

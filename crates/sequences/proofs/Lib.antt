@@ -1,4 +1,7 @@
 pub mod Counts
 pub mod Parts
+pub mod Segments
+pub mod Copying
 pub mod Building
+pub mod Prepending
 pub mod Transposing
