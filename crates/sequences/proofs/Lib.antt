@@ -4,4 +4,5 @@ pub mod Segments
 pub mod Copying
 pub mod Building
 pub mod Prepending
+pub mod Sharing
 pub mod Transposing

@@ -6,12 +6,12 @@ use native.Mathlib.Omega.{arith}
 use lib.ListN.{length}
 use Rattle.language.specs.Objects.{Obj, seq, Objs, nil, _::_, lengthOf, _+++_}
 use Rattle.language.specs.declared.Val.{Val}
-use Rattle.cells.specs.Cells.{Rep, rep-more, Same, valAt, nextAt, sequenceVal, cellPut}
+use Rattle.cells.specs.Cells.{Rep, rep-nil, rep-more, Same, valAt, nextAt, sequenceVal, cellPut}
 use Rattle.cells.specs.Parts.{nthObj}
 use Rattle.cells.proofs.Reps.{same-refl, same-fewer, same-val, same-next, rep-ext, cell-same, cell-val, cell-next}
 use Rattle.sequences.specs.Making.{takeObjs}
 use Rattle.sequences.specs.Lines.{linkOver, Place, Line}
-use Rattle.sequences.proofs.Parts.{take-next}
+use Rattle.sequences.proofs.Parts.{append-more, take-next}
 
 -- ---- one place
 -- a place stays where later cells change
@@ -45,6 +45,25 @@ pub seg-rep : {C : List ℕ} {k a l : ℕ} {xs : Objs} (ys : Objs) → Segment C
 seg-rep ys (seg-none e) r = rw e r
 seg-rep {C} {k} {a} {l} ys (seg-more {p = p} {x = x} {xs = xs} e i h g) r =
     rep-more {v = sequenceVal a (suc (lengthOf (xs +++ ys)))} {p = p} {x = x} {xs = xs +++ ys} refl (omega arith) i h (seg-rep ys g r)
+
+-- ---- the objects of `all` from the link a on: those of `todo` are still to be made, and l is to lead to them
+pub record Begun (C : List ℕ) (k a : ℕ) (all todo : Objs) (l : ℕ) : Type 0 where
+  pub made : Objs
+  pub segment : Segment C k a made l
+  pub whole : made +++ todo ≡ all
+
+pub begin : (C : List ℕ) (k a : ℕ) (all : Objs) → Begun C k a all all a
+begin C k a all = record { made = nil; segment = seg-none refl; whole = refl }
+
+pub begun-next : {C C′ : List ℕ} {k k′ a l next p : ℕ} {x : Obj} {all todo : Objs} → Same C C′ k → k ≤ k′ → l ≡ suc p → p < k′ → Place C′ k′ p x next → Begun C k a all (x :: todo) l → Begun C′ k′ a all todo next
+begun-next {x = x} {todo = todo} s h e i g b = record {
+  made = b .made +++ (x :: nil);
+  segment = seg-end e i g (seg-ext s h (b .segment));
+  whole = append-more (b .made) x todo ∙ b .whole;
+}
+
+pub begun-end : {C : List ℕ} {k a : ℕ} {all : Objs} → Begun C k a all nil 0 → Rep C k (sequenceVal a (lengthOf all)) (seq all)
+begun-end {C} {k} {a} b = subst (λ (t : Objs). Rep C k (sequenceVal a (lengthOf t)) (seq t)) (b .whole) (seg-rep nil (b .segment) (rep-nil refl refl))
 
 -- a line in which each place leads to the next cell is a segment
 pub line-segment : {C : List ℕ} {k p : ℕ} {xs : Objs} (m : ℕ) → m ≤ lengthOf xs → p + m ≤ k → k < 4294967295 → Line C p 1 xs m → Segment C k (p + 1) (takeObjs m xs) (p + m + 1)

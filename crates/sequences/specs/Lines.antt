@@ -7,7 +7,7 @@ use Rattle.language.specs.Objects.{Obj, seq, Objs, lengthOf}
 use Rattle.language.specs.declared.Val.{Val}
 use Rattle.cells.specs.Cells.{Rep, Same, valAt, nextAt}
 use Rattle.cells.specs.Parts.{nthObj, dropObjs}
-use Rattle.sequences.specs.Making.{Space}
+use Rattle.sequences.specs.Making.{Space, side}
 
 -- what leads to the cell d further on than p: its number and one; 0 where d is 0
 unfoldable pub linkOver : ℕ → ℕ → ℕ
@@ -31,3 +31,7 @@ pub record Copies (C : List ℕ) (p d : ℕ) (xs : Objs) (n : ℕ) (r : Val) (C�
 
 pub record Copied (C : List ℕ) (v : Val) (n p d : ℕ) (r : Val) (C′ : List ℕ) : Type 0 where
   pub means : (xs : Objs) → n ≤ lengthOf xs → Space C p (n + d) → Rep C p v (seq xs) → Copies C p d xs n r C′
+
+-- the pair of a and b in the cells p and p + 1, and in cell p + 2 a place that holds it and leads to `next`
+pub record Coupled (C : List ℕ) (p : ℕ) (a b : Val) (first : Bool) (next : ℕ) (C′ : List ℕ) : Type 0 where
+  pub means : (x y : Obj) → Space C p 3 → Rep C p a x → Rep C p b y → Place C′ (p + 2) (p + 2) (side first x y) next × Same C C′ p
