@@ -17,7 +17,7 @@ use Rattle.sequences.proofs.Parts.{append-nil, append-more, length-appe
 
 -- ---- one place
 -- a sequence's value is its first cell's link and its length
-as-sequence : {C : List ℕ} {n : ℕ} {s : Val} (ys : Objs) → n < 4294967296 → Rep C n s (seq ys) → s ≡ sequenceVal (s .word % 4294967296) (lengthOf ys)
+pub as-sequence : {C : List ℕ} {n : ℕ} {s : Val} (ys : Objs) → n < 4294967296 → Rep C n s (seq ys) → s ≡ sequenceVal (s .word % 4294967296) (lengthOf ys)
 as-sequence {s = s} nil h (rep-nil t w) = val-same s (sequenceVal (s .word % 4294967296) 0) t (omega arith)
 as-sequence {s = s} (y :: ys) h (rep-more t w l a b) = val-same s (sequenceVal (s .word % 4294967296) (suc (lengthOf ys))) t (omega arith)
 
@@ -74,37 +74,6 @@ stands-as {C} {C′} {p} {n} {r = r} e s = subst (λ (t : Objs). Stands C p n t 
 
 pub nil-rep : {C : List ℕ} {n : ℕ} {v : Val} → v ≡ sequenceVal 0 0 → Rep C n v (seq nil)
 nil-rep {C} {n} e = rw e (rep-nil refl refl)
-
--- ---- the first places of a sequence
-pub record Prepending (C₀ : List ℕ) (v : Val) (n p : ℕ) (rest : Val) (C : List ℕ) (left : ℕ) (s : Val) (free : ℕ) : Type 0 where
-  pub sum : free + left ≡ p + n
-  pub most : left ≤ n
-  pub fits : p + n < 4294967296
-  pub len : length C ≡ length C₀
-  pub means : (xs ys : Objs) → n ≤ lengthOf xs → Space C₀ p n → Rep C₀ p v (seq xs) → Rep C₀ p rest (seq ys) → Building C₀ p (takeObjs n xs) ys C left s free
-
-pub prepend-far : {C C′ : List ℕ} {n p : ℕ} {v rest r : Val} → 4294967295 - p < n → Prepended C v n p rest r C′
-prepend-far h = record { means = λ xs ys l e rv rr. absurd (omega (arith, e .far)) }
-
-pub prepend-start : {C : List ℕ} {n p : ℕ} {v rest : Val} → n ≤ 4294967295 - p → p < 4294967296 → Prepending C v n p rest C n rest p
-prepend-start {n = n} h u = record { sum = refl; most = omega arith; fits = omega arith; len = refl; means = λ xs ys l e rv rr. build-start (takeObjs n xs) ys (take-length n xs l) rr }
-
-prepend-step : {C₀ C C′ : List ℕ} {n p left free : ℕ} {v rest s x r : Val} (q : ℕ) → left ≡ suc q → Prepending C₀ v n p rest C left s free → Nth C v q x → Before C free x s r C′ → length C′ ≡ length C → Prepending C₀ v n p rest C′ q r (free + 1)
-prepend-step {C₀} {C} {C′} {n} {p} {left} {free} {v} {rest} {s} {x} {r} q z g t b e = record { sum = omega (arith, g .sum); most = omega (arith, g .most); fits = g .fits; len = e ∙ g .len; means = go }
-  where
-    go : (xs ys : Objs) → n ≤ lengthOf xs → Space C₀ p n → Rep C₀ p v (seq xs) → Rep C₀ p rest (seq ys) → Building C₀ p (takeObjs n xs) ys C′ q r (free + 1)
-    go xs ys l sp rv rr =
-        let m = g .means xs ys l sp rv rr in
-        let u : free < 4294967296 = omega (arith, g .sum, g .fits) in
-        let i : q < n = omega (arith, g .most) in
-        let y = t .means free xs u (omega arith) (rep-ext (m .same) (omega (arith, g .sum, g .most)) rv) in
-        build-step q (omega (arith, take-length n xs l)) (omega (arith, g .sum, g .most)) (omega arith) (same-refl C free) (rw (nth-take q n xs i l) y) (record { far = omega (arith, g .sum, g .fits); long = omega (arith, g .sum, g .len, sp .long) }) b (rw z at m)
-
-pub prepend-next : {C₀ C C′ : List ℕ} {n p left free : ℕ} {v rest s x r : Val} → 0 < left → Prepending C₀ v n p rest C left s free → Nth C v (left - 1) x → Before C free x s r C′ → length C′ ≡ length C → Prepending C₀ v n p rest C′ (left - 1) r (free + 1)
-prepend-next {left = left} h g t b e = prepend-step (left - 1) (omega arith) g t b e
-
-pub prepend-end : {C₀ C : List ℕ} {n p left free : ℕ} {v rest s : Val} → left ≤ 0 → Prepending C₀ v n p rest C left s free → Prepended C₀ v n p rest s C
-prepend-end {n = n} h g = record { means = λ xs ys l sp rv rr. build-end n (omega arith) (omega (arith, g .sum)) (g .means xs ys l sp rv rr) }
 
 -- ---- without the last place
 pub last-none : {C : List ℕ} {v : Val} {n p : ℕ} → n ≡ 0 → Built allButLast C v n p v C
@@ -249,56 +218,3 @@ turn-end {C₀} {C} {n} {p} {left} {free} {v} {rest} {made} h g = record { means
         let m = g .means xs e (rw i at s) rv in
         let j : p + lengthOf (turned xs) ≡ free = omega (arith, g .sum) in
         record { rep = rw j (turn-done xs (m .ahead) (omega (arith, m .long)) (m .whole) (m .rep)); same = m .same }
-
--- ---- pairs
-pub joined-first : {C C′ : List ℕ} {p : ℕ} {a b r : Val} {first : Bool} → first ≡ true → Paired C p a b r C′ → Joined C p a b first r C′
-joined-first e g = record { means = λ x y s ra rb. rw e (g .means x y (s .far) (omega (arith, s .long)) ra rb) }
-
-pub joined-second : {C C′ : List ℕ} {p : ℕ} {a b r : Val} {first : Bool} → first ≡ false → Paired C p b a r C′ → Joined C p a b first r C′
-joined-second e g = record { means = λ x y s ra rb. rw e (g .means y x (s .far) (omega (arith, s .long)) rb ra) }
-
-nth-sides : (b : Bool) (x : Obj) (ys : Objs) (k : ℕ) → k < lengthOf ys → nthObj (sides b x ys) k ≡ side b x (nthObj ys k)
-unfolding sides nthObj
-nth-sides b x nil k h = absurd (omega arith)
-nth-sides b x (y :: ys) zero h = refl
-nth-sides b x (y :: ys) (suc k) h = nth-sides b x ys k (omega arith)
-
-pub length-sides : (b : Bool) (x : Obj) (ys : Objs) → lengthOf (sides b x ys) ≡ lengthOf ys
-unfolding sides
-length-sides b x nil = refl
-length-sides b x (y :: ys) = ap suc (length-sides b x ys)
-
-pub record Sharing (C₀ : List ℕ) (a v : Val) (first : Bool) (n p : ℕ) (C : List ℕ) (s : Val) (left free : ℕ) : Type 0 where
-  pub sum : free + 3 * left ≡ p + 3 * n
-  pub most : left ≤ n
-  pub fits : p + 3 * n < 4294967296
-  pub len : length C ≡ length C₀
-  pub means : (x : Obj) (ys : Objs) → lengthOf ys ≡ n → Space C₀ p (3 * n) → Rep C₀ p a x → Rep C₀ p v (seq ys) → Building C₀ p (sides first x ys) nil C left s free
-
-pub share-long : {C C′ : List ℕ} {a v r : Val} {first : Bool} {n p : ℕ} → 1073741823 < n → Shared C a v first n p r C′
-share-long h = record { means = λ x ys e s ra rv. absurd (omega (arith, s .far, s .long, few-places ys (omega (arith, s .far)) rv)) }
-
-pub share-far : {C C′ : List ℕ} {a v r : Val} {first : Bool} {n p : ℕ} → 4294967295 - p < 3 * n → Shared C a v first n p r C′
-share-far h = record { means = λ x ys e s ra rv. absurd (omega (arith, s .far)) }
-
-pub share-start : {C : List ℕ} {a v s : Val} {first : Bool} {n p : ℕ} → 3 * n ≤ 4294967295 - p → p < 4294967296 → s ≡ sequenceVal 0 0 → Sharing C a v first n p C s n p
-share-start {first = first} {n = n} h k f = record { sum = refl; most = omega arith; fits = omega arith; len = refl; means = λ x ys e sp ra rv. build-start (sides first x ys) nil (length-sides first x ys ∙ e) (nil-rep f) }
-
-share-step : {C₀ C C₁ C₂ : List ℕ} {a v s y x r : Val} {first : Bool} {n p left free : ℕ} (q : ℕ) → left ≡ suc q → Sharing C₀ a v first n p C s left free → Nth C v q y → Joined C free a y first x C₁ → length C₁ ≡ length C → Before C₁ (free + 2) x s r C₂ → length C₂ ≡ length C₁ → Sharing C₀ a v first n p C₂ r q (free + 3)
-share-step {C₀} {C} {C₁} {C₂} {a} {v} {s} {y} {x} {r} {first} {n} {p} {left} {free} q z g t jn e₁ b e₂ = record { sum = omega (arith, g .sum); most = omega (arith, g .most); fits = g .fits; len = e₂ ∙ (e₁ ∙ g .len); means = go }
-  where
-    go : (o : Obj) (ys : Objs) → lengthOf ys ≡ n → Space C₀ p (3 * n) → Rep C₀ p a o → Rep C₀ p v (seq ys) → Building C₀ p (sides first o ys) nil C₂ q r (free + 3)
-    go o ys e sp ra rv =
-        let m = g .means o ys e sp ra rv in
-        let l : p ≤ free = omega (arith, g .sum, g .most) in
-        let i : q < lengthOf ys = omega (arith, g .most) in
-        let w = t .means free ys (omega (arith, g .sum, g .fits)) i (rep-ext (m .same) l rv) in
-        let pr = jn .means o (nthObj ys q) (record { far = omega (arith, g .sum, g .fits); long = omega (arith, g .sum, g .len, sp .long) }) (rep-ext (m .same) l ra) w in
-        let k : free + 2 + 1 ≡ free + 3 = omega arith in
-        subst (λ (f : ℕ). Building C₀ p (sides first o ys) nil C₂ q r f) k (build-step q (omega (arith, length-sides first o ys)) l (omega arith) (pr .1) (rw (nth-sides first o ys q i) (pr .0)) (record { far = omega (arith, g .sum, g .fits); long = omega (arith, g .sum, g .len, sp .long, e₁) }) b (rw z at m))
-
-pub share-next : {C₀ C C₁ C₂ : List ℕ} {a v s y x r : Val} {first : Bool} {n p left free : ℕ} → 0 < left → Sharing C₀ a v first n p C s left free → Nth C v (left - 1) y → Joined C free a y first x C₁ → length C₁ ≡ length C → Before C₁ (free + 2) x s r C₂ → length C₂ ≡ length C₁ → Sharing C₀ a v first n p C₂ r (left - 1) (free + 3)
-share-next {left = left} h g t jn e₁ b e₂ = share-step (left - 1) (omega arith) g t jn e₁ b e₂
-
-pub share-end : {C₀ C : List ℕ} {a v s : Val} {first : Bool} {n p left free : ℕ} → left ≤ 0 → Sharing C₀ a v first n p C s left free → Shared C₀ a v first n p s C
-share-end {first = first} {n = n} h g = record { means = λ x ys e sp ra rv. stands-as (append-nil (sides first x ys)) (build-end (3 * n) (omega arith) (omega (arith, g .sum)) (g .means x ys e sp ra rv)) }

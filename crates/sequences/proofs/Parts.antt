@@ -1,10 +1,10 @@
 -- The first objects of a sequence, and the object in a place.
-use Prim.Native.Nat.{ℕ, zero, suc, _≤_, _<_}
+use Prim.Native.Nat.{ℕ, zero, suc, _+_, _≤_, _<_}
 use mathlib.Core.Path.{_≡_, refl, ap}
 use native.Mathlib.Omega.{arith}
 use Rattle.language.specs.Objects.{Obj, Objs, nil, _::_, lengthOf, _+++_}
 use Rattle.language.specs.Meanings.{dropLast, lastOf}
-use Rattle.cells.specs.Parts.{nthObj}
+use Rattle.cells.specs.Parts.{nthObj, dropObjs}
 use Rattle.sequences.specs.Making.{takeObjs}
 
 pub append-nil : (xs : Objs) → xs +++ nil ≡ xs
@@ -18,6 +18,10 @@ append-more (x :: xs) y ys = ap (λ (r : Objs). x :: r) (append-more xs y ys)
 pub length-append-one : (xs : Objs) (y : Obj) → lengthOf (xs +++ (y :: nil)) ≡ suc (lengthOf xs)
 length-append-one nil y = refl
 length-append-one (x :: xs) y = ap suc (length-append-one xs y)
+
+pub length-append : (xs ys : Objs) → lengthOf (xs +++ ys) ≡ lengthOf xs + lengthOf ys
+length-append nil ys = omega arith
+length-append (x :: xs) ys = let e = length-append xs ys in omega arith
 
 pub take-all : (n : ℕ) (xs : Objs) → lengthOf xs ≤ n → takeObjs n xs ≡ xs
 unfolding takeObjs
@@ -58,3 +62,9 @@ take-but-last x (y :: ys) = ap (λ (r : Objs). x :: r) (take-but-last y ys)
 pub length-but-last : (x : Obj) (xs : Objs) → lengthOf (dropLast x xs) ≡ lengthOf xs
 length-but-last x nil = refl
 length-but-last x (y :: ys) = ap suc (length-but-last y ys)
+
+pub drop-first : (xs : Objs) (k : ℕ) → k < lengthOf xs → dropObjs xs k ≡ nthObj xs k :: dropObjs xs (suc k)
+unfolding dropObjs nthObj
+drop-first nil k h = absurd (omega arith)
+drop-first (x :: xs) zero h = refl
+drop-first (x :: xs) (suc k) h = drop-first xs k (omega arith)

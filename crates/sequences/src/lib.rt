@@ -1,6 +1,7 @@
-// Sequences made in new cells. A sequence is made from its last place to its first, so that what follows a place stands
-// before the place is made. A run makes at most 4,096 cells, so walking to a place from the front costs little.
+// Sequences made in new cells. A sequence's first places are copied from the first to the last, each cell leading to the
+// next; other sequences are made from their last place to their first.
 
+mod lines;
 mod orders;
 mod pairs;
 mod places;

@@ -2,6 +2,7 @@
 ghost use mathlib.Core.Path.{_≡_};
 ghost use Prim.Native.Nat.{_%_};
 ghost use Rattle.sequences.specs.Making.{Before, Prepended};
+use super::lines;
 use language::Val;
 
 // What leads to a sequence's first cell: its number and one, or 0.
@@ -30,17 +31,18 @@ pub fn put_before(c: &mut [u32], p: u32, x: Val, s: Val) -> Val
 pub fn prepended(c: &mut [u32], v: Val, n: u32, p: u32, rest: Val) -> Val
     ensures { λ r. ⌜ Prepended (now (c .entry)) v n p rest r (now (c .exit)) ⌝ }
 {
+    if n == 0 {
+        return rest;
+    }
     if 4294967295 - p < n {
         return rest;
     }
-    let mut s = rest;
-    let mut left = n;
-    let mut free = p;
-    while 0 < left {
-        left -= 1;
-        let x = cells::nth(c, v, left);
-        s = put_before(c, free, x, s);
-        free += 1;
+    let more = cells::size(rest);
+    if 4294967295 - n < more {
+        return rest;
     }
-    s
+    let behind = lines::copied(c, v, n - 1, p, 1);
+    let last = cells::head(c, behind);
+    cells::put_cell(c, p + (n - 1), last, link(rest));
+    cells::sequence(p + 1, n + more)
 }

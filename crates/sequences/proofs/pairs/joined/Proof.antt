@@ -1,6 +1,6 @@
 -- `joined` gives the pair, with its first value on either side.
 use borrow.Author.Needs.{needs}
-use Rattle.sequences.proofs.Building.{joined-first, joined-second}
+use Rattle.sequences.proofs.Sharing.{joined-first, joined-second}
 use Rattle.sequences.proofs.pairs.joined.Statement.{statement}
 use Rattle.sequences.proofs.pairs.joined.Tie as tie
 

@@ -1,74 +1,100 @@
--- `prepended` puts the first n places before the rest: those from `left` on are there.
+-- `prepended` puts the first n places before the rest.
 use borrow.Author.Needs.{needs}
-use native.Mathlib.Omega.{arith}
-use Rattle.sequences.proofs.Building.{Prepending, prepend-far, prepend-start, prepend-next, prepend-end}
+use Rattle.sequences.proofs.Prepending.{prepend-none, prepend-far, prepend-long, prepend-is}
 use Rattle.sequences.proofs.places.prepended.Statement.{statement}
 use Rattle.sequences.proofs.places.prepended.Tie as tie
 
-abbrev Inv-loop : tie.InvT-loop
-Inv-loop c₀ v n p s₀ left₀ free₀ c s left free = Prepending c₀ v n p s₀ c left s free
-
-abbrev μ-loop : tie.MeasureT-loop
-μ-loop c₀ v n p s₀ left₀ free₀ c s left free = left
+-- return rest;
+returns : tie.Need-returns
+returns c = search prepend-none
 
 -- if 4294967295 - p < n {
-sub-if1 : tie.Need-sub-if1 Inv-loop μ-loop
-sub-if1 c = search needs
+sub-if2 : tie.Need-sub-if2
+sub-if2 c = search needs
 
 -- return rest;
-returns : tie.Need-returns Inv-loop μ-loop
-returns c = search prepend-far
+returns-2 : tie.Need-returns-2
+returns-2 c = search prepend-far
 
--- while 0 < left {
-loop-holds : tie.Need-loop-holds Inv-loop μ-loop
-loop-holds c = prepend-start (omega arith) (omega arith)
+-- let more = cells::size(rest);
+size-requires : tie.Need-size-requires
+size-requires c κs = search needs
 
--- left -= 1;
-sub-left : tie.Need-sub-left Inv-loop μ-loop
-sub-left c = search needs
+-- if 4294967295 - n < more {
+sub-if3 : tie.Need-sub-if3
+sub-if3 c = search needs
 
--- let x = cells::nth(c, v, left);
-nth-requires : tie.Need-nth-requires Inv-loop μ-loop
-nth-requires c κs = search needs
+-- return rest;
+returns-3 : tie.Need-returns-3
+returns-3 c = search prepend-long
 
--- s = put_before(c, free, x, s);
-put-before-requires : tie.Need-put-before-requires Inv-loop μ-loop
-put-before-requires c κs = search needs
+-- let behind = lines::copied(c, v, n - 1, p, 1);
+sub-copied : tie.Need-sub-copied
+sub-copied c = search needs
 
--- free += 1;
-add-free : tie.Need-add-free Inv-loop μ-loop
-add-free c = search needs
+-- let behind = lines::copied(c, v, n - 1, p, 1);
+copied-requires : tie.Need-copied-requires
+copied-requires c κs = search needs
 
--- while 0 < left {
-loop-less : tie.Need-loop-less Inv-loop μ-loop
-loop-less c = search needs
+-- let last = cells::head(c, behind);
+head-requires : tie.Need-head-requires
+head-requires c κs = search needs
 
--- while 0 < left {
-loop-again : tie.Need-loop-again Inv-loop μ-loop
-loop-again c = search prepend-next
+-- cells::put_cell(c, p + (n - 1), last, link(rest));
+sub-put-cell : tie.Need-sub-put-cell
+sub-put-cell c = search needs
+
+-- cells::put_cell(c, p + (n - 1), last, link(rest));
+add-put-cell : tie.Need-add-put-cell
+add-put-cell c = search needs
+
+-- cells::put_cell(c, p + (n - 1), last, link(rest));
+link-requires : tie.Need-link-requires
+link-requires c κs = search needs
+
+-- cells::put_cell(c, p + (n - 1), last, link(rest));
+put-cell-requires : tie.Need-put-cell-requires
+put-cell-requires c κs = search needs
+
+-- cells::sequence(p + 1, n + more)
+add-sequence : tie.Need-add-sequence
+add-sequence c = search needs
+
+-- cells::sequence(p + 1, n + more)
+add-sequence-2 : tie.Need-add-sequence-2
+add-sequence-2 c = search needs
+
+-- cells::sequence(p + 1, n + more)
+sequence-requires : tie.Need-sequence-requires
+sequence-requires c κs = search needs
 
 -- pub fn prepended(c: &mut [u32], v: Val, n: u32, p: u32, rest: Val) -> Val
-same-length : tie.Need-same-length Inv-loop μ-loop
-same-length c = c .before .loop .inv .len
+same-length : tie.Need-same-length
+same-length c = search needs
 
 -- pub fn prepended(c: &mut [u32], v: Val, n: u32, p: u32, rest: Val) -> Val
-returns-2 : tie.Need-returns-2 Inv-loop μ-loop
-returns-2 c = search prepend-end
+returns-4 : tie.Need-returns-4
+returns-4 c = search prepend-is
 
 pub prepended-spec : {M : Type 1} → statement M
 prepended-spec =
     tie.close
     (tie.spec
-    Inv-loop
-    μ-loop
-    sub-if1
     returns
-    loop-holds
-    sub-left
-    nth-requires
-    put-before-requires
-    add-free
-    loop-less
-    loop-again
+    sub-if2
+    returns-2
+    size-requires
+    sub-if3
+    returns-3
+    sub-copied
+    copied-requires
+    head-requires
+    sub-put-cell
+    add-put-cell
+    link-requires
+    put-cell-requires
+    add-sequence
+    add-sequence-2
+    sequence-requires
     same-length
-    returns-2)
+    returns-4)
