@@ -78,5 +78,4 @@ module _ {program : List ℕ} {P : Prog} {T : List ℕ} {total : ℕ} {D : List 
         count = omega (arith, L .laid .definitions);
         blank = L .definitions;
         names = L .laid .names;
-        inNames = omega (arith, formed .fewDefinitions, L .longDefinitions);
       }

@@ -30,8 +30,8 @@ use Rattle.nattglod.proofs.Exits as Exits
 use Rattle.nattglod.proofs.Standing.{room-left, object-stands, program-loaded}
 
 -- ---- `main` is applied
-pub main-answered : {b : Meter} {T : List ℕ} {total : ℕ} {D : List ℕ} {many : ℕ} {C : List ℕ} {used : ℕ} {v : Val} {q : Ended} {T′ C′ output output′ : List ℕ} {r : Answer} →
-    MainApplied T total D many C v (budgets (b .steps) (b .names) (b .cells - used)) q T′ C′ → EndMet b C′ q output r output′ → MainAnswered b T total D many C used v output r output′
+pub main-answered : {b : Meter} {T : List ℕ} {total : ℕ} {D : List ℕ} {many : ℕ} {C : List ℕ} {used : ℕ} {v : Val} {q : Ended} {C′ output output′ : List ℕ} {r : Answer} →
+    MainApplied T total D many C v (budgets (b .steps) (b .names) (b .cells - used)) q C′ → EndMet b C′ q output r output′ → MainAnswered b T total D many C used v output r output′
 main-answered {b = b} {C = C} {used = used} A E =
     record { means = λ placed x forms cells L R p. E .means C (budgets (b .steps) (b .names) (b .cells - used)) _ forms cells (A .means placed x L R p) }
 
