@@ -22,8 +22,7 @@ use Rattle.formtable.specs.Standing.{Stands, bodies}
 use Rattle.formtable.proofs.Lengths.{length-program, length-program-constants}
 use Rattle.formtable.proofs.Stood.{program-stands}
 use Rattle.machine.specs.Mains.{Loaded}
-use Rattle.nattglod.specs.Calls.{budgets}
-use Rattle.nattglod.specs.Stages.{ProgramLies}
+use Rattle.nattglod.specs.Stages.{ProgramLies, withoutCells}
 
 -- ---- what was put in front stays in front of what is put behind it
 module _ (t k vs : List ℕ) (n : ℕ) (long : length k ≡ n) where
@@ -39,13 +38,13 @@ module _ {program : List ℕ} {P : Prog} {T : List ℕ} {total : ℕ} {D : List 
   long-after : length C′ ≡ 4 * b .cells
   long-after = ap length is-put ∙ length-put C (used * 4) (cellsFrom used x) (omega (arith, length-cells x used)) ∙ long
 
-  pub room-left : Room C′ (budgets (b .steps) (b .names) (b .cells - (used + cellsOf x)))
+  pub room-left : Room C′ (withoutCells b (used + cellsOf x))
   room-left = let l = long-after in record { fits = omega arith; small = omega arith }
 
-  free-is : free C′ (budgets (b .steps) (b .names) (b .cells - (used + cellsOf x))) ≡ used + cellsOf x
+  free-is : free C′ (withoutCells b (used + cellsOf x)) ≡ used + cellsOf x
   free-is = let l = long-after in omega arith
 
-  pub object-stands : Rep C′ (free C′ (budgets (b .steps) (b .names) (b .cells - (used + cellsOf x)))) (valOf used x) x
+  pub object-stands : Rep C′ (free C′ (withoutCells b (used + cellsOf x))) (valOf used x) x
   object-stands = rw (free-is, is-put) (put-rep x used C (omega arith) (objects-read object x e is-object .isObj))
 
   -- the constants come first in the cells
@@ -55,17 +54,17 @@ module _ {program : List ℕ} {P : Prog} {T : List ℕ} {total : ℕ} {D : List 
       let c = L .laid .constants (omega (arith, L .laid .long)) in
       is-put ∙ rw c (put-front (L .cells) (programConstants 0 P) (cellsFrom used x) (used * 4) (omega (arith, length-program-constants P 0)))
 
-  program-placed : Stands T C′ (free C′ (budgets (b .steps) (b .names) (b .cells - (used + cellsOf x)))) 0 (bodies P) total
+  program-placed : Stands T C′ (free C′ (withoutCells b (used + cellsOf x))) 0 (bodies P) total
   unfolding put
   program-placed =
       let z : 0 + formsOf P ≡ total = omega (arith, L .laid .forms) in
-      rw z at (program-stands T C′ (free C′ (budgets (b .steps) (b .names) (b .cells - (used + cellsOf x)))) P 0 0 (drop (0 + length (encodeProgram 0 P)) (L .forms)) (cellsFrom used x ++ drop (used * 4 + length (cellsFrom used x)) C)
+      rw z at (program-stands T C′ (free C′ (withoutCells b (used + cellsOf x))) P 0 0 (drop (0 + length (encodeProgram 0 P)) (L .forms)) (cellsFrom used x ++ drop (used * 4 + length (cellsFrom used x)) C)
       (formed .definitions) (omega (arith, free-is, L .laid .cells)) (L .laid .table) constants-first)
 
   long-table : length T ≡ 8192
   long-table = ap length (L .laid .table) ∙ length-put (L .forms) 0 (encodeProgram 0 P) (omega (arith, length-program P 0, formed .fewForms, L .longForms)) ∙ L .longForms
 
-  pub program-loaded : Loaded (L .laid .placed) T total D many C′ (budgets (b .steps) (b .names) (b .cells - (used + cellsOf x)))
+  pub program-loaded : Loaded (L .laid .placed) T total D many C′ (withoutCells b (used + cellsOf x))
   program-loaded =
       let p = L .laid .program in
       let n = length-map (L .laid .placed) (λ (d : Placed). d .def) in

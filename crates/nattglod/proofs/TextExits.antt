@@ -24,16 +24,16 @@ use Rattle.programs.specs.declared.ProgramRead.the-variants as P
 use Rattle.programs.specs.Definitions.{ProgramLaid, ProgramMet, program-read, program-refused}
 use Rattle.primitives.specs.declared.Ended.{Ended}
 use Rattle.machine.specs.Mains.{MainApplied}
-use Rattle.nattglod.specs.Calls.{budgets, lends, Sized, TextsAnswered}
-use Rattle.nattglod.specs.Stages.{Small, ObjectAnswered, MainAnswered, EndMet}
+use Rattle.nattglod.specs.Calls.{lends, Sized, TextsAnswered}
+use Rattle.nattglod.specs.Stages.{Small, withoutCells, ObjectAnswered, MainAnswered, EndMet}
 use Rattle.nattglod.proofs.Exits as Exits
 use Rattle.nattglod.proofs.Standing.{room-left, object-stands, program-loaded}
 
 -- ---- `main` is applied
 pub main-answered : {b : Meter} {T : List ℕ} {total : ℕ} {D : List ℕ} {many : ℕ} {C : List ℕ} {used : ℕ} {v : Val} {q : Ended} {C′ output output′ : List ℕ} {r : Answer} →
-    MainApplied T total D many C v (budgets (b .steps) (b .names) (b .cells - used)) q C′ → EndMet b C′ q output r output′ → MainAnswered b T total D many C used v output r output′
+    MainApplied T total D many C v (withoutCells b used) q C′ → EndMet b C′ q output r output′ → MainAnswered b T total D many C used v output r output′
 main-answered {b = b} {C = C} {used = used} A E =
-    record { means = λ placed x forms cells L R p. E .means C (budgets (b .steps) (b .names) (b .cells - used)) _ forms cells (A .means placed x L R p) }
+    record { means = λ placed x forms cells L R p. E .means C (withoutCells b used) _ forms cells (A .means placed x L R p) }
 
 -- ---- the object
 record GotObject (C : List ℕ) (used : ℕ) (v : Val) (n : ℕ) (C′ : List ℕ) (g : Got Obj) : Type 0 where

@@ -47,11 +47,15 @@ pub record Small (object total many used : ℕ) : Type 0 where
 pub record ObjectAnswered (object : List ℕ) (b : Meter) (T : List ℕ) (total : ℕ) (D : List ℕ) (many : ℕ) (C : List ℕ) (used : ℕ) (output : List ℕ) (r : Answer) (output′ : List ℕ) : Type 0 where
   pub means : (program : List ℕ) (P : Prog) (forms cells : List ℕ) → ProgramLies program P T total D many C used → b .cells ≤ 4096 → length C ≡ 4 * b .cells → TextsAnswered program object b (lends forms cells output) r output′
 
+-- the budgets with which `main` is applied, where `used` cells are taken
+abbrev pub withoutCells : Meter → ℕ → Meter
+withoutCells b used = budgets (b .steps) (b .names) (b .cells - used)
+
 -- what applying `main` to v gives, where a program and the object of v stand in the first `used` cells
 pub record MainAnswered (b : Meter) (T : List ℕ) (total : ℕ) (D : List ℕ) (many : ℕ) (C : List ℕ) (used : ℕ) (v : Val) (output : List ℕ) (r : Answer) (output′ : List ℕ) : Type 0 where
-  pub means : (placed : List Placed) (x : Obj) (forms cells : List ℕ) → Loaded placed T total D many C (budgets (b .steps) (b .names) (b .cells - used)) → Room C (budgets (b .steps) (b .names) (b .cells - used))
-      → Rep C (free C (budgets (b .steps) (b .names) (b .cells - used))) v x
-      → EndAnswered b (lends forms cells output) (apply (b .steps) one (programOf placed) mainForm x (budgets (b .steps) (b .names) (b .cells - used))) r output′
+  pub means : (placed : List Placed) (x : Obj) (forms cells : List ℕ) → Loaded placed T total D many C (withoutCells b used) → Room C (withoutCells b used)
+      → Rep C (free C (withoutCells b used)) v x
+      → EndAnswered b (lends forms cells output) (apply (b .steps) one (programOf placed) mainForm x (withoutCells b used)) r output′
 
 -- what the end of an application gives, with the cells C′ that it left
 pub record EndMet (b : Meter) (C′ : List ℕ) (ended : Ended) (output : List ℕ) (r : Answer) (output′ : List ℕ) : Type 0 where
