@@ -1,0 +1,53 @@
+// Cases as tools/convert_vectors.py writes them: thirteen numbers of 32 bits, the lowest byte first, and three texts.
+ghost use Prim.Native.Nat.{_≤_};
+use language::Answer;
+
+// The lengths of the three texts, the budgets, the output's length, and the answer.
+pub struct Case {
+    pub program: u32,
+    pub object: u32,
+    pub text: u32,
+    pub steps: u32,
+    pub names: u32,
+    pub cells: u32,
+    pub room: u32,
+    pub answer: Answer,
+}
+
+fn wide(b: u8) -> u64
+    ensures { λ r. ⌜ r ≤ 255 ⌝ }
+{
+    b as u64
+}
+
+// Number i of the thirteen.
+fn number(s: &[u8], i: usize) -> u32 {
+    let k = (i % 13) * 4;
+    let low = wide(lexer::byte_at(s, k)) + 256 * wide(lexer::byte_at(s, k + 1));
+    let high = wide(lexer::byte_at(s, k + 2)) + 256 * wide(lexer::byte_at(s, k + 3));
+    ((low + 65536 * high) % 4294967296) as u32
+}
+
+fn read_answer(s: &[u8]) -> Answer {
+    Answer {
+        number: number(s, 7),
+        place: number(s, 8),
+        text: number(s, 9),
+        steps: number(s, 10),
+        cells: number(s, 11),
+        length: number(s, 12),
+    }
+}
+
+pub fn read_case(s: &[u8]) -> Case {
+    Case {
+        program: number(s, 0),
+        object: number(s, 1),
+        text: number(s, 2),
+        steps: number(s, 3),
+        names: number(s, 4),
+        cells: number(s, 5),
+        room: number(s, 6),
+        answer: read_answer(s),
+    }
+}
