@@ -1,7 +1,6 @@
--- Sequences made from the last place to the first: what is made stands in the cells, what is left is still to be made.
-use Prim.Native.Nat.{ℕ, zero, suc, _+_, _-_, _*_, _%_, _≤_, _<_}
+-- A place put before a sequence, and the places of a sequence in another order.
+use Prim.Native.Nat.{ℕ, suc, _+_, _-_, _%_, _≤_, _<_}
 use mathlib.Core.Path.{_≡_, refl, sym, ap, subst, _∙_}
-use mathlib.Core.Bool.{Bool, true, false}
 use mathlib.Core.List.{List}
 use native.Mathlib.Omega.{arith}
 use lib.ListN.{length}
@@ -9,11 +8,11 @@ use Rattle.language.specs.Objects.{Obj, seq, Objs, nil, _::_, lengthOf, _+++_}
 use Rattle.language.specs.Meanings.{dropLast, lastOf, turnedOnto, turned, toLeft, toRight}
 use Rattle.language.specs.declared.Val.{Val}
 use Rattle.cells.specs.Cells.{Rep, rep-nil, rep-more, Same, sequenceVal, cellPut}
-use Rattle.cells.specs.Parts.{nthObj, Sized, Headed, Tailed, Nth, Paired}
+use Rattle.cells.specs.Parts.{Sized, Headed, Tailed, Nth}
 use Rattle.cells.proofs.Reps.{val-same, same-refl, same-trans, rep-ext, cell-same, rep-new}
-use Rattle.sequences.specs.Making.{Space, Stands, Before, takeObjs, Prepended, Built, allButLast, side, sides, Joined, Shared}
+use Rattle.sequences.specs.Making.{Space, Stands, Before, takeObjs, Prepended, Built, allButLast}
 use Rattle.sequences.proofs.Counts.{few-places}
-use Rattle.sequences.proofs.Parts.{append-nil, append-more, length-append-one, take-all, take-length, take-next, nth-take, nth-last, take-but-last, length-but-last}
+use Rattle.sequences.proofs.Parts.{append-nil, length-append-one, take-all, nth-last, take-but-last, length-but-last}
 
 -- ---- one place
 -- a sequence's value is its first cell's link and its length
@@ -40,34 +39,6 @@ before-is {C} {C′} {p} {n} {l} {x} {s} {r} z f g e = record { means = go }
           rep = rw (e, j, g) (rep-new l ys (omega (arith, h .long)) rx (rw i at rs));
           same = rw g (cell-same C p x l);
         }
-
--- ---- T before `rest`, from cell p on: the first `left` of T are still to be made
-pub record Building (C₀ : List ℕ) (p : ℕ) (T rest : Objs) (C : List ℕ) (left : ℕ) (s : Val) (free : ℕ) : Type 0 where
-  pub done : Objs
-  pub rep : Rep C free s (seq done)
-  pub same : Same C₀ C p
-  pub whole : takeObjs left T +++ done ≡ T +++ rest
-
-pub build-start : {C : List ℕ} {p n : ℕ} {s : Val} (T rest : Objs) → lengthOf T ≡ n → Rep C p s (seq rest) → Building C p T rest C n s p
-build-start {C} {p} {n} T rest e r = record { done = rest; rep = r; same = same-refl C p; whole = ap (λ (t : Objs). t +++ rest) (take-all n T (omega arith)) }
-
--- the object in place q of T stands in C₁, whose cells before `free` are those of C, and is put into cell f
-pub build-step : {C₀ C C₁ C₂ : List ℕ} {p free f : ℕ} {T rest : Objs} {s x r : Val} (q : ℕ) → q < lengthOf T → p ≤ free → free ≤ f → Same C C₁ free → Rep C₁ f x (nthObj T q) → Space C₁ f 1 → Before C₁ f x s r C₂ → Building C₀ p T rest C (suc q) s free → Building C₀ p T rest C₂ q r (f + 1)
-build-step {T = T} {rest = rest} q h l k s₁ rx sp b g =
-    let d = g .done in
-    let st = b .means (nthObj T q) d sp rx (rep-ext s₁ k (g .rep)) in
-    record {
-      done = nthObj T q :: d;
-      rep = st .rep;
-      same = same-trans l (g .same) (same-trans k s₁ (st .same));
-      whole = sym (append-more (takeObjs q T) (nthObj T q) d) ∙ (ap (λ (t : Objs). t +++ d) (sym (take-next q T h)) ∙ g .whole);
-    }
-
-pub build-end : {C₀ C : List ℕ} {p free left : ℕ} {T rest : Objs} {s : Val} (n : ℕ) → left ≡ 0 → free ≡ p + n → Building C₀ p T rest C left s free → Stands C₀ p n (T +++ rest) s C
-unfolding takeObjs
-build-end {C = C} {p = p} {left = left} {T = T} {rest = rest} {s = s} n z e g =
-    let f : g .done ≡ T +++ rest = ap (λ (k : ℕ). takeObjs k T +++ g .done) (sym z) ∙ g .whole in
-    record { rep = rw (← e, ← f) (g .rep); same = g .same }
 
 pub stands-as : {C C′ : List ℕ} {p n : ℕ} {xs ys : Objs} {r : Val} → xs ≡ ys → Stands C p n xs r C′ → Stands C p n ys r C′
 stands-as {C} {C′} {p} {n} {r = r} e s = subst (λ (t : Objs). Stands C p n t r C′) e s

@@ -6,3 +6,5 @@ pub mod Building
 pub mod Prepending
 pub mod Sharing
 pub mod Transposing
+pub mod Spreading
+pub mod Listing

@@ -42,13 +42,6 @@ take-next n nil h = absurd (omega arith)
 take-next zero (x :: xs) h = refl
 take-next (suc n) (x :: xs) h = ap (λ (r : Objs). x :: r) (take-next n xs (omega arith))
 
-pub nth-take : (k n : ℕ) (xs : Objs) → k < n → n ≤ lengthOf xs → nthObj (takeObjs n xs) k ≡ nthObj xs k
-unfolding takeObjs nthObj
-nth-take k zero xs h l = absurd (omega arith)
-nth-take k (suc n) nil h l = absurd (omega arith)
-nth-take zero (suc n) (x :: xs) h l = refl
-nth-take (suc k) (suc n) (x :: xs) h l = nth-take k n xs (omega arith) (omega arith)
-
 pub nth-last : (x : Obj) (xs : Objs) → nthObj (x :: xs) (lengthOf xs) ≡ lastOf x xs
 unfolding nthObj
 nth-last x nil = refl

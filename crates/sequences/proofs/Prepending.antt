@@ -1,12 +1,12 @@
 -- The first places of a sequence before another: all but the last of them in a line, and then the last, which leads to the other sequence.
-use Prim.Native.Nat.{ℕ, zero, suc, _+_, _-_, _*_, _%_, _≤_, _<_}
-use mathlib.Core.Path.{_≡_, refl, sym, ap, subst, _∙_}
+use Prim.Native.Nat.{ℕ, zero, suc, _+_, _-_, _%_, _≤_, _<_}
+use mathlib.Core.Path.{_≡_, refl, sym, ap, _∙_}
 use mathlib.Core.List.{List}
 use native.Mathlib.Omega.{arith}
 use lib.ListN.{length}
-use Rattle.language.specs.Objects.{Obj, seq, Objs, nil, _::_, lengthOf, _+++_}
+use Rattle.language.specs.Objects.{seq, Objs, _::_, lengthOf, _+++_}
 use Rattle.language.specs.declared.Val.{Val}
-use Rattle.cells.specs.Cells.{Rep, Same, sequenceVal, cellPut}
+use Rattle.cells.specs.Cells.{Rep, sequenceVal, cellPut}
 use Rattle.cells.specs.Parts.{nthObj, dropObjs, Sized, Headed}
 use Rattle.cells.proofs.Reps.{same-refl, same-trans, rep-ext, cell-same, rep-new}
 use Rattle.sequences.specs.Making.{Space, Stands, takeObjs, Prepended}

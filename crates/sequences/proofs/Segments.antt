@@ -1,13 +1,12 @@
 -- Places that lie in cells from the first to the last: a part of a sequence, from the link that leads to its first place to the link in its last.
-use Prim.Native.Nat.{ℕ, zero, suc, _+_, _-_, _*_, _%_, _≤_, _<_}
-use mathlib.Core.Path.{_≡_, refl, sym, ap, subst, _∙_}
+use Prim.Native.Nat.{ℕ, zero, suc, _+_, _*_, _%_, _≤_, _<_}
+use mathlib.Core.Path.{_≡_, refl, subst, _∙_}
 use mathlib.Core.List.{List}
 use native.Mathlib.Omega.{arith}
 use lib.ListN.{length}
 use Rattle.language.specs.Objects.{Obj, seq, Objs, nil, _::_, lengthOf, _+++_}
 use Rattle.language.specs.declared.Val.{Val}
 use Rattle.cells.specs.Cells.{Rep, rep-nil, rep-more, Same, valAt, nextAt, sequenceVal, cellPut}
-use Rattle.cells.specs.Parts.{nthObj}
 use Rattle.cells.proofs.Reps.{same-refl, same-fewer, same-val, same-next, rep-ext, cell-same, cell-val, cell-next}
 use Rattle.sequences.specs.Making.{takeObjs}
 use Rattle.sequences.specs.Lines.{linkOver, Place, Line}

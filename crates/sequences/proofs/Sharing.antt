@@ -1,6 +1,6 @@
 -- A pair for each place of a sequence, from the first place to the last.
-use Prim.Native.Nat.{ℕ, zero, suc, _+_, _-_, _*_, _≤_, _<_}
-use mathlib.Core.Path.{_≡_, refl, sym, ap, subst, _∙_}
+use Prim.Native.Nat.{ℕ, suc, _+_, _-_, _*_, _≤_, _<_}
+use mathlib.Core.Path.{_≡_, refl, ap, _∙_}
 use mathlib.Core.Bool.{Bool, true, false}
 use mathlib.Core.List.{List}
 use native.Mathlib.Omega.{arith}
@@ -34,7 +34,7 @@ couple-is {C} {C₁} {C₂} {p} {next} {a} {b} {r} {first} j e f = record { mean
         rw f (place-new next (omega arith) (omega (arith, s .long)) (m .0), same-trans (omega arith) (m .1) (cell-same C₁ (p + 2) r next))
 
 -- ---- all pairs
-pub length-sides : (b : Bool) (x : Obj) (ys : Objs) → lengthOf (sides b x ys) ≡ lengthOf ys
+length-sides : (b : Bool) (x : Obj) (ys : Objs) → lengthOf (sides b x ys) ≡ lengthOf ys
 unfolding sides
 length-sides b x nil = refl
 length-sides b x (y :: ys) = ap suc (length-sides b x ys)

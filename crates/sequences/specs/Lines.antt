@@ -1,13 +1,13 @@
 -- Places written into cells from the first to the last, each with its link to the next: what the functions inside this crate answer.
 use Prim.Native.Nat.{ℕ, zero, suc, _+_, _*_, _%_, _≤_, _<_}
 use mathlib.Core.Path.{_≡_}
-use mathlib.Core.Bool.{Bool, true, false}
+use mathlib.Core.Bool.{Bool, true}
 use mathlib.Core.List.{List}
 use Rattle.language.specs.Objects.{Obj, seq, Objs, lengthOf}
 use Rattle.language.specs.declared.Val.{Val}
-use Rattle.cells.specs.Cells.{Rep, Same, valAt, nextAt}
+use Rattle.cells.specs.Cells.{Rep, Same, valAt, nextAt, sequenceVal}
 use Rattle.cells.specs.Parts.{nthObj, dropObjs}
-use Rattle.sequences.specs.Making.{Space, side}
+use Rattle.sequences.specs.Making.{Space, Stands, side, areRows, columnAt}
 
 -- what leads to the cell d further on than p: its number and one; 0 where d is 0
 unfoldable pub linkOver : ℕ → ℕ → ℕ
@@ -35,3 +35,22 @@ pub record Copied (C : List ℕ) (v : Val) (n p d : ℕ) (r : Val) (C′ : List 
 -- the pair of a and b in the cells p and p + 1, and in cell p + 2 a place that holds it and leads to `next`
 pub record Coupled (C : List ℕ) (p : ℕ) (a b : Val) (first : Bool) (next : ℕ) (C′ : List ℕ) : Type 0 where
   pub means : (x y : Obj) → Space C p 3 → Rep C p a x → Rep C p b y → Place C′ (p + 2) (p + 2) (side first x y) next × Same C C′ p
+
+-- ---- rows and columns
+-- the sequence of n places that begins in cell p
+unfoldable pub sequenceFrom : ℕ → ℕ → Val
+sequenceFrom p zero = sequenceVal 0 0
+sequenceFrom p (suc n) = sequenceVal ((p + 1) % 4294967296) (suc n)
+
+-- the n rows of w places lie in the cells from p on, up to cell r, and each column of them is a sequence
+pub record Spreads (C : List ℕ) (n w p : ℕ) (rs : Objs) (r : ℕ) (C′ : List ℕ) : Type 0 where
+  pub end : r ≡ p + w * n
+  pub column : (j : ℕ) → j < w → Rep C′ r (sequenceFrom (p + j) n) (seq (columnAt j rs))
+  pub same : Same C C′ p
+
+pub record Spread (C : List ℕ) (v : Val) (n w p r : ℕ) (C′ : List ℕ) : Type 0 where
+  pub means : (rs : Objs) → lengthOf rs ≡ n → areRows w rs ≡ true → Space C p (w + w * n) → Rep C p v (seq rs) → Spreads C n w p rs r C′
+
+-- the sequence of the w sequences that begin in the cells from `first` on
+pub record Listed (C : List ℕ) (first n w p : ℕ) (r : Val) (C′ : List ℕ) : Type 0 where
+  pub means : (xs : Objs) → lengthOf xs ≡ w → Space C p w → ((j : ℕ) → j < w → Rep C p (sequenceFrom (first + j) n) (nthObj xs j)) → Stands C p w xs r C′

@@ -90,10 +90,6 @@ unfoldable pub columnsAt : ℕ → ℕ → Objs → Objs
 columnsAt j zero rs = nil
 columnsAt j (suc w) rs = seq (columnAt j rs) :: columnsAt (suc j) w rs
 
--- column j of the n rows of v, in n cells
-pub record Column (C : List ℕ) (v : Val) (j n p : ℕ) (r : Val) (C′ : List ℕ) : Type 0 where
-  pub means : (w : ℕ) (rs : Objs) → lengthOf rs ≡ n → areRows w rs ≡ true → j < w → Space C p n → Rep C p v (seq rs) → Stands C p n (columnAt j rs) r C′
-
 -- the w columns of the n rows of v, in n cells and one for each
 pub record Columns (C : List ℕ) (v : Val) (n w p : ℕ) (r : Val) (C′ : List ℕ) : Type 0 where
   pub means : (rs : Objs) → lengthOf rs ≡ n → areRows w rs ≡ true → Space C p (w + w * n) → Rep C p v (seq rs) → Stands C p (w + w * n) (columnsAt 0 w rs) r C′

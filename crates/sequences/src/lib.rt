@@ -1,5 +1,5 @@
-// Sequences made in new cells. A sequence's first places are copied from the first to the last, each cell leading to the
-// next; other sequences are made from their last place to their first.
+// Sequences made in new cells. What is read is read from the front, place after place. Places that keep their order are
+// written from the first to the last, each leading to a cell further on; others are put before those made already.
 
 mod lines;
 mod orders;

@@ -1,5 +1,9 @@
 // The columns of rows of equal length.
-ghost use Rattle.sequences.specs.Making.{Rows, Column, Columns};
+ghost use mathlib.Core.Path.{_≡_};
+ghost use Prim.Native.Nat.{_+_, _%_};
+ghost use Rattle.sequences.specs.Lines.{sequenceFrom, Spread, Listed};
+ghost use Rattle.sequences.specs.Making.{Rows, Columns};
+use super::lines;
 use super::places;
 use language::Val;
 
@@ -23,42 +27,69 @@ pub fn are_rows(c: &[u32], v: Val, n: u32, w: u32) -> bool
     true
 }
 
-// Place j of each of the n rows of v, in the cells from p on.
-fn column(c: &mut [u32], v: Val, j: u32, n: u32, p: u32) -> Val
-    ensures { λ r. ⌜ Column (now (c .entry)) v j n p r (now (c .exit)) ⌝ }
+// The number w further on than p. No table has so many cells that it could run over.
+fn further(p: u32, w: u32) -> u32
+    ensures { λ r. ⌜ r ≡ (p + w) % 4294967296 ⌝ }
 {
-    if 4294967295 - p < n {
-        return v;
+    ((p as u64 + w as u64) % 4294967296) as u32
+}
+
+// The n rows of v, one after the other in the cells from p on, each place leading to the one below it. Answers the next
+// free cell.
+fn spread(c: &mut [u32], v: Val, n: u32, w: u32, p: u32) -> u32
+    ensures { λ r. ⌜ Spread (now (c .entry)) v n w p r (now (c .exit)) ⌝ }
+{
+    if n == 0 {
+        return p;
     }
-    let mut s = cells::sequence(0, 0);
+    let mut ahead = v;
     let mut left = n;
+    let mut free = p;
+    while 1 < left {
+        let row = cells::head(c, ahead);
+        ahead = cells::tail(c, ahead);
+        lines::copied(c, row, w, free, w);
+        free = further(free, w);
+        left -= 1;
+    }
+    let last = cells::head(c, ahead);
+    lines::copied(c, last, w, free, 0);
+    further(free, w)
+}
+
+// The sequence of n places that begins in cell first + j.
+fn begun_at(first: u32, j: u32, n: u32) -> Val
+    ensures { λ r. ⌜ r ≡ sequenceFrom (first + j) n ⌝ }
+{
+    if n == 0 {
+        return cells::sequence(0, 0);
+    }
+    cells::sequence(((first as u64 + j as u64 + 1) % 4294967296) as u32, n)
+}
+
+// The sequence of the w sequences of n places that begin in the cells from first on, in the cells from p on.
+fn listed(c: &mut [u32], first: u32, n: u32, w: u32, p: u32) -> Val
+    ensures { λ r. ⌜ Listed (now (c .entry)) first n w p r (now (c .exit)) ⌝ }
+{
+    let mut s = cells::sequence(0, 0);
+    if 4294967295 - p < w {
+        return s;
+    }
+    let mut left = w;
     let mut free = p;
     while 0 < left {
         left -= 1;
-        let row = cells::nth(c, v, left);
-        let x = cells::nth(c, row, j);
+        let x = begun_at(first, left, n);
         s = places::put_before(c, free, x, s);
         free += 1;
     }
     s
 }
 
-// The w columns of the n rows of v, in the cells from p on: n for each column, and then its place.
+// The w columns of the n rows of v, in the cells from p on: w for each row, and then one for each column.
 pub fn columns(c: &mut [u32], v: Val, n: u32, w: u32, p: u32) -> Val
     ensures { λ r. ⌜ Columns (now (c .entry)) v n w p r (now (c .exit)) ⌝ }
 {
-    let mut s = cells::sequence(0, 0);
-    let mut left = w;
-    let mut free = p;
-    while 0 < left {
-        let next = free as u64 + n as u64 + 1;
-        if 4294967295 < next {
-            return v;
-        }
-        left -= 1;
-        let x = column(c, v, left, n, free);
-        s = places::put_before(c, free + n, x, s);
-        free = next as u32;
-    }
-    s
+    let free = spread(c, v, n, w, p);
+    listed(c, p, n, w, free)
 }
