@@ -9,10 +9,12 @@ use Rattle.language.specs.Answers.{runCall}
 use Rattle.language.specs.Fprun.{budgetsIn, lentFor, shown, reply, fprun}
 use Rattle.language.specs.declared.Meter.{Meter}
 
--- language's `fprun` of the input stands in the first r bytes
+-- language's `fprun` of the input stands in the first r bytes. The last part follows from the one before it: it spares those
+-- who lend these bytes a proof.
 pub record Replied (input : List ℕ) (r : ℕ) (out : List ℕ) : Type 0 where
   pub is : take r out ≡ fprun input
   pub fits : r ≤ length out
+  pub counts : r ≡ length (take r out)
 
 unfoldable pub callReply : (program object : List ℕ) → Meter → List ℕ
 callReply program object b = shown (runCall program object b (lentFor b))

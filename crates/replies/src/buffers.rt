@@ -1,13 +1,6 @@
-// The buffers of a call. What stands in them does not matter, so each promises its length only.
+// The buffers of a call and its reply. What stands in them does not matter, so each promises its length only.
 ghost use mathlib.Core.Path.{_≡_};
 ghost use lib.ListN.{length};
-
-// One byte more than an input may have, so that a longer one shows.
-pub fn input() -> [u8; 25001]
-    ensures { λ r. ⌜ 25001 ≡ length r ⌝ }
-{
-    [0; 25001]
-}
 
 // The longest reply: six numbers of at most ten digits, each with a byte behind it, and a text of 16,384 bytes with its
 // line feed.

@@ -1,10 +1,10 @@
 -- A run with the lent tables, and what is shown of it.
 use native.Mathlib.Omega.{arith}
 use lib.ListN.{length-take}
-use Rattle.fprun.proofs.Replying.{call-printed}
+use Rattle.replies.proofs.Replying.{call-printed}
 use borrow.Author.Needs.{needs}
-use Rattle.fprun.proofs.answering.answer_call.Statement.{statement}
-use Rattle.fprun.proofs.answering.answer_call.Tie as tie
+use Rattle.replies.proofs.answering.answer_call.Statement.{statement}
+use Rattle.replies.proofs.answering.answer_call.Tie as tie
 
 -- let mut forms = buffers::form_table();
 form-table-requires : tie.Need-form-table-requires

@@ -1,8 +1,8 @@
 -- An input that is too long or of another shape is answered by 99, every other as its three lines.
-use Rattle.fprun.proofs.Replying.{too-long, lines-within, other-shaped, three-shaped}
+use Rattle.replies.proofs.Replying.{too-long, lines-within, other-shaped, three-shaped}
 use borrow.Author.Needs.{needs}
-use Rattle.fprun.proofs.answering.answer_input.Statement.{statement}
-use Rattle.fprun.proofs.answering.answer_input.Tie as tie
+use Rattle.replies.proofs.answering.answer_input.Statement.{statement}
+use Rattle.replies.proofs.answering.answer_input.Tie as tie
 
 -- return lines::print_other(out);
 print-other-requires : tie.Need-print-other-requires

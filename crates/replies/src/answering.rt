@@ -3,7 +3,7 @@ ghost use Prim.Native.Nat.{_+_, _≤_};
 ghost use lib.ListN.{length};
 ghost use lib.Seq.{slice};
 ghost use Rattle.lines.specs.Printing.{Printed};
-ghost use Rattle.fprun.specs.Replies.{Replied, CellsLent, LinesEnd, callReply, linesReply};
+ghost use Rattle.replies.specs.Replies.{Replied, CellsLent, LinesEnd, callReply, linesReply};
 use super::buffers;
 use language::Meter;
 use lines::Budgets;

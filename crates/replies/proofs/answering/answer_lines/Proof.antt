@@ -1,8 +1,8 @@
 -- The reply to three lines: the budgets are read, and then the call is run.
-use Rattle.fprun.proofs.Replying.{no-budgets, lines-printed}
+use Rattle.replies.proofs.Replying.{no-budgets, lines-printed}
 use borrow.Author.Needs.{needs}
-use Rattle.fprun.proofs.answering.answer_lines.Statement.{statement}
-use Rattle.fprun.proofs.answering.answer_lines.Tie as tie
+use Rattle.replies.proofs.answering.answer_lines.Statement.{statement}
+use Rattle.replies.proofs.answering.answer_lines.Tie as tie
 
 -- let m = match lines::read_budgets(s, first) {
 read-budgets-requires : tie.Need-read-budgets-requires

@@ -25,8 +25,8 @@ use Rattle.lines.specs.declared.Budgets.the-variants as B
 use Rattle.lines.specs.declared.Lines.{Lines}
 use Rattle.lines.specs.declared.Lines.the-variants.{Three, Other}
 use Rattle.nattglod.specs.Calls.{budgets, lends, RunAnswered}
-use Rattle.fprun.specs.Replies.{Replied, CellsLent, LinesEnd, callReply, linesReply}
-use Rattle.fprun.proofs.Alike.{same-shown, alike-call, same-refused}
+use Rattle.replies.specs.Replies.{Replied, CellsLent, LinesEnd, callReply, linesReply}
+use Rattle.replies.proofs.Alike.{same-shown, alike-call, same-refused}
 
 -- another text that is the same, with a larger bound
 as-text : {t u : List ℕ} {m n : ℕ} {out out′ : List ℕ} {at r : ℕ} → t ≡ u → m ≤ n → Printed t m out at r out′ → Printed u n out at r out′
@@ -110,7 +110,7 @@ module _ {s out out′ : List ℕ} {r : ℕ} (room : length out ≡ 16451) where
       let few = p .few in
       let ends : r ≡ length t = p .ends ∙ zero-add (length t) in
       let k = ap length (p .is) ∙ length-put out 0 t (omega arith) in
-      record { is = rw (p .is, ends, take-append-seam) e; fits = omega arith }
+      record { is = rw (p .is, ends, take-append-seam) e; fits = omega arith; counts = sym (length-take-le r out′ (omega arith)) }
 
   pub too-long : 25000 < length s → Printed other 3 out 0 r out′ → Replied s r out′
   unfolding fprun

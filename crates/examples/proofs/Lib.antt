@@ -1,0 +1,2 @@
+-- The laws that the proofs of examples cite.
+pub mod Further

@@ -1,0 +1,2 @@
+-- The definitions that the contracts of examples cite.
+pub mod Ahead

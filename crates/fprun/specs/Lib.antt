@@ -1,2 +1,0 @@
--- The definitions that the contracts of fprun cite.
-pub mod Replies

@@ -1,0 +1,3 @@
+-- The laws that the proofs of replies cite.
+pub mod Alike
+pub mod Replying

@@ -1,0 +1,2 @@
+-- The definitions that the contracts of replies cite.
+pub mod Replies
