@@ -19,10 +19,10 @@ use Rattle.cells.specs.Encoding.{valOf, cellsFrom}
 use Rattle.cells.proofs.Encoded.{length-cells, put-rep}
 use Rattle.formtable.specs.Encoding.{encodeProgram, programConstants}
 use Rattle.formtable.specs.Standing.{Stands, bodies}
-use Rattle.formtable.proofs.Lengths.{length-program, length-program-constants}
+use Rattle.formtable.proofs.Lengths.{length-program-constants}
 use Rattle.formtable.proofs.Stood.{program-stands}
 use Rattle.machine.specs.Mains.{Loaded}
-use Rattle.nattglod.specs.Stages.{ProgramLies, withoutCells}
+use Rattle.nattglod.specs.Stages.{ProgramLies, Small, withoutCells}
 
 -- ---- what was put in front stays in front of what is put behind it
 module _ (t k vs : List ℕ) (n : ℕ) (long : length k ≡ n) where
@@ -31,12 +31,12 @@ module _ (t k vs : List ℕ) (n : ℕ) (long : length k ≡ n) where
   put-front = rw (take-at k (drop (0 + length k) t) n long) (append-assoc k vs (drop (n + length vs) (k ++ drop (0 + length k) t)))
 
 -- ---- the program and the object in the tables
-module _ {program : List ℕ} {P : Prog} {T : List ℕ} {total : ℕ} {D : List ℕ} {many : ℕ} {C : List ℕ} {used : ℕ} (L : ProgramLies program P T total D many C used) (object : List ℕ) {x : Obj} {e : ℕ} (is-object : readObject object ≡ got x e) (b : Meter) (long : length C ≡ 4 * b .cells) (few : b .cells ≤ 4096) (fit : used + cellsOf x ≤ b .cells) {C′ : List ℕ} (is-put : C′ ≡ put C (used * 4) (cellsFrom used x)) where
+module _ {program : List ℕ} {P : Prog} {T : List ℕ} {total : ℕ} {D : List ℕ} {many : ℕ} {C : List ℕ} {used : ℕ} (L : ProgramLies program P T total D many C used) (object : List ℕ) {x : Obj} {e o : ℕ} (is-object : readObject object ≡ got x e) (b : Meter) (S : Small o b (length T) total many (length C) used) (fit : used + cellsOf x ≤ b .cells) {C′ : List ℕ} (is-put : C′ ≡ put C (used * 4) (cellsFrom used x)) where
   formed : WellFormed P
   formed = programs-read program P (L .ends) (L .read) .wellFormed
 
   long-after : length C′ ≡ 4 * b .cells
-  long-after = ap length is-put ∙ length-put C (used * 4) (cellsFrom used x) (omega (arith, length-cells x used)) ∙ long
+  long-after = ap length is-put ∙ length-put C (used * 4) (cellsFrom used x) (omega (arith, length-cells x used, S .cellTable)) ∙ S .cellTable
 
   pub room-left : Room C′ (withoutCells b (used + cellsOf x))
   room-left = let l = long-after in record { fits = omega arith; small = omega arith }
@@ -61,9 +61,6 @@ module _ {program : List ℕ} {P : Prog} {T : List ℕ} {total : ℕ} {D : List 
       rw z at (program-stands T C′ (free C′ (withoutCells b (used + cellsOf x))) P 0 0 (drop (0 + length (encodeProgram 0 P)) (L .forms)) (cellsFrom used x ++ drop (used * 4 + length (cellsFrom used x)) C)
       (formed .definitions) (omega (arith, free-is, L .laid .cells)) (L .laid .table) constants-first)
 
-  long-table : length T ≡ 8192
-  long-table = ap length (L .laid .table) ∙ length-put (L .forms) 0 (encodeProgram 0 P) (omega (arith, length-program P 0, formed .fewForms, L .longForms)) ∙ L .longForms
-
   pub program-loaded : Loaded (L .laid .placed) T total D many C′ (withoutCells b (used + cellsOf x))
   program-loaded =
       let p = L .laid .program in
@@ -72,8 +69,8 @@ module _ {program : List ℕ} {P : Prog} {T : List ℕ} {total : ℕ} {D : List 
       record {
         formed = rw p at (formed .definitions);
         forms = rw p at program-placed;
-        fewForms = omega (arith, L .laid .forms, formed .fewForms);
-        inTable = omega (arith, L .laid .forms, formed .fewForms, long-table);
+        fewForms = S .fewForms;
+        inTable = omega (arith, S .fewForms, S .formTable);
         count = omega (arith, L .laid .definitions);
         blank = L .definitions;
         names = L .laid .names;

@@ -55,16 +55,16 @@ module _ {C : List ℕ} {used : ℕ} {q : ObjectRead} {C′ : List ℕ} where
 
 -- the object x in the cells behind the program's, and `main` applied to it
 module _ {object : List ℕ} {x : Obj} {e : ℕ} (is : readObject object ≡ got x e) {b : Meter} {T : List ℕ} {total : ℕ} {D : List ℕ} {many : ℕ} {C : List ℕ} {used : ℕ} {v : Val} {n : ℕ} {C′ output output′ : List ℕ} {r : Answer} where
-  object-runs : v ≡ valOf used x → n ≡ used + cellsOf x → ((used + cellsOf x) * 4 ≤ length C → C′ ≡ put C (used * 4) (cellsFrom used x)) → n ≤ b .cells → MainAnswered b T total D many C′ n v output r output′
+  object-runs : v ≡ valOf used x → n ≡ used + cellsOf x → ((used + cellsOf x) * 4 ≤ length C → C′ ≡ put C (used * 4) (cellsFrom used x)) → Small (length object) b (length T) total many (length C) used → n ≤ b .cells → MainAnswered b T total D many C′ n v output r output′
       → ObjectAnswered object b T total D many C used output r output′
-  object-runs w k laid l M =
+  object-runs w k laid S l M =
       record {
-        means = λ program P forms cells L few long.
+        means = λ program P forms cells L.
             let u = L .laid .cells in
             let fit : used + cellsOf x ≤ b .cells = omega arith in
-            let s = laid (omega arith) in
+            let s = laid (omega (arith, S .cellTable)) in
             let N : MainAnswered b T total D many C′ (used + cellsOf x) (valOf used x) output r output′ = rw (w, k) at M in
-            let E = N .means (L .laid .placed) x forms cells (program-loaded L object is b long few fit s) (room-left L object is b long few fit s) (object-stands L object is b long few fit s) in
+            let E = N .means (L .laid .placed) x forms cells (program-loaded L object is b S fit s) (room-left L object is b S fit s) (object-stands L object is b S fit s) in
             Exits.ran program object b (lends forms cells output) (L .read) is (omega arith) (rw (← (L .laid .program), u) at E);
       }
 
@@ -74,7 +74,7 @@ module _ {object C : List ℕ} {used : ℕ} {q : ObjectRead} {C′ : List ℕ} (
 
   pub object-answered-no : {b : Meter} {T : List ℕ} {total : ℕ} {D : List ℕ} {many : ℕ} {output : List ℕ} {n p : ℕ} {r : Answer} → q ≡ O.No n p → r ≡ at n p 2 → ObjectAnswered object b T total D many C used output r output
   object-answered-no {b = b} {output = output} z a =
-      record { means = λ program P forms cells L few long. rw a (Exits.object-refused program object b (lends forms cells output) (L .read) (object-no (W .means) z)) }
+      record { means = λ program P forms cells L. rw a (Exits.object-refused program object b (lends forms cells output) (L .read) (object-no (W .means) z)) }
 
   module _ {v : Val} {e n : ℕ} (z : q ≡ O.Got v e n) where
     y : GotObject C used v n C′ (readObject object)
@@ -82,10 +82,10 @@ module _ {object C : List ℕ} {used : ℕ} {q : ObjectRead} {C′ : List ℕ} (
 
     pub object-answered-few : {b : Meter} {T : List ℕ} {total : ℕ} {D : List ℕ} {many : ℕ} {output : List ℕ} {r : Answer} → b .cells < n → r ≡ bare 13 → ObjectAnswered object b T total D many C used output r output
     object-answered-few {b = b} {output = output} l a =
-        record { means = λ program P forms cells L few long. rw a (Exits.too-few program object b (lends forms cells output) (L .read) (y .is) (omega (arith, y .counted, L .laid .cells))) }
+        record { means = λ program P forms cells L. rw a (Exits.too-few program object b (lends forms cells output) (L .read) (y .is) (omega (arith, y .counted, L .laid .cells))) }
 
-    pub object-answered-run : {b : Meter} {T : List ℕ} {total : ℕ} {D : List ℕ} {many : ℕ} {output output′ : List ℕ} {r : Answer} → n ≤ b .cells → MainAnswered b T total D many C′ n v output r output′ → ObjectAnswered object b T total D many C used output r output′
-    object-answered-run l M = object-runs (y .is) (y .value) (y .counted) (y .laid) l M
+    pub object-answered-run : {b : Meter} {T : List ℕ} {total : ℕ} {D : List ℕ} {many : ℕ} {output output′ : List ℕ} {r : Answer} → Small (length object) b (length T) total many (length C) used → n ≤ b .cells → MainAnswered b T total D many C′ n v output r output′ → ObjectAnswered object b T total D many C used output r output′
+    object-answered-run S l M = object-runs (y .is) (y .value) (y .counted) (y .laid) S l M
 
 -- ---- the program
 record GotProgram (s t u d : List ℕ) (k n c : ℕ) (T C D : List ℕ) (g : Got Prog) : Type 0 where
@@ -118,13 +118,11 @@ module _ {program t u d : List ℕ} {q : ProgramRead} {T C D : List ℕ} (M : Pr
     g : GotProgram program t u d k n c T C D (readProgram program)
     g = program-got M z
 
-    pub program-small : {object : ℕ} {b : Meter} {forms cells : ℕ} → Sized (length program) object b forms cells → Small object n k c
-    program-small S =
+    pub program-small : {object : ℕ} {b : Meter} → Sized (length program) object b (length t) (length u) → length T ≡ length t → Small object b (length T) n k (length C) c
+    program-small S i =
         let w = programs-read program (g .program) (g .ends) (g .is) .wellFormed in
         let l = few-constants program (g .program) (g .ends) (S .shortProgram) (g .is) in
-        record { shortObject = S .shortObject; fewForms = omega (arith, g .laid .forms); fewDefinitions = omega (arith, g .laid .definitions); fewConstants = omega (arith, g .laid .cells) }
+        record { shortObject = S .shortObject; fewCells = S .fewCells; formTable = i ∙ S .formTable; cellTable = g .laid .long ∙ S .cellTable; fewForms = omega (arith, g .laid .forms); fewDefinitions = omega (arith, g .laid .definitions); fewConstants = omega (arith, g .laid .cells) }
 
-    pub texts-got : {object : List ℕ} {b : Meter} {output : List ℕ} {r : Answer} {output′ : List ℕ} → length d ≡ 512 → Sized (length program) (length object) b (length t) (length u)
-        → ObjectAnswered object b T n D k C c output r output′ → TextsAnswered program object b (lends t u output) r output′
-    texts-got l S A =
-        A .means program (g .program) t u (record { ends = g .ends; forms = t; cells = u; definitions = d; read = g .is; laid = g .laid; longForms = S .formTable; longDefinitions = l }) (S .fewCells) (g .laid .long ∙ S .cellTable)
+    pub texts-got : {object : List ℕ} {b : Meter} {output : List ℕ} {r : Answer} {output′ : List ℕ} → ObjectAnswered object b T n D k C c output r output′ → TextsAnswered program object b (lends t u output) r output′
+    texts-got A = A .means program (g .program) t u (record { ends = g .ends; forms = t; cells = u; definitions = d; read = g .is; laid = g .laid })

@@ -4,7 +4,6 @@ use mathlib.Core.Path.{_≡_}
 use mathlib.Core.Bool.{cond, _||_, not}
 use mathlib.Core.List.{List}
 use lib.Dec.{ltb, eqb}
-use lib.ListN.{length}
 use Rattle.language.specs.Objects.{Obj}
 use Rattle.language.specs.Forms.{Prog, mainForm}
 use Rattle.language.specs.Reading.{got, Placed, readProgram}
@@ -33,19 +32,21 @@ pub record ProgramLies (program : List ℕ) (P : Prog) (T : List ℕ) (total : �
   pub definitions : List ℕ
   pub read : readProgram program ≡ got P ends
   pub laid : ProgramLaid program P ends forms cells definitions many total used T C D
-  pub longForms : length forms ≡ 8192
-  pub longDefinitions : length definitions ≡ 512
 
--- what is read has the sizes that are allowed: an object's text, and a program's forms, definitions and cells of constants
-pub record Small (object total many used : ℕ) : Type 0 where
+-- What is behind the program's text has the sizes that are allowed: the object's text, the budgeted cells and both tables; and
+-- the program's forms, definitions and cells of constants.
+pub record Small (object : ℕ) (b : Meter) (forms total many cells used : ℕ) : Type 0 where
   pub shortObject : object ≤ 16384
+  pub fewCells : b .cells ≤ 4096
+  pub formTable : forms ≡ 8192
+  pub cellTable : cells ≡ 4 * b .cells
   pub fewForms : total ≤ 2048
   pub fewDefinitions : many ≤ 128
   pub fewConstants : used ≤ 4093
 
 -- what the object's text gives then
 pub record ObjectAnswered (object : List ℕ) (b : Meter) (T : List ℕ) (total : ℕ) (D : List ℕ) (many : ℕ) (C : List ℕ) (used : ℕ) (output : List ℕ) (r : Answer) (output′ : List ℕ) : Type 0 where
-  pub means : (program : List ℕ) (P : Prog) (forms cells : List ℕ) → ProgramLies program P T total D many C used → b .cells ≤ 4096 → length C ≡ 4 * b .cells → TextsAnswered program object b (lends forms cells output) r output′
+  pub means : (program : List ℕ) (P : Prog) (forms cells : List ℕ) → ProgramLies program P T total D many C used → TextsAnswered program object b (lends forms cells output) r output′
 
 -- the budgets with which `main` is applied, where `used` cells are taken
 abbrev pub withoutCells : Meter → ℕ → Meter

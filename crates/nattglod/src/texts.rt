@@ -48,7 +48,7 @@ fn answer_object(
     used: u32,
     output: &mut [u8],
 ) -> Answer
-    requires { ⌜ Small (length (now object)) total many used ⌝ }
+    requires { ⌜ Small (length (now object)) b (length (now forms)) total many (length (now c)) used ⌝ }
     ensures { λ r. ⌜ ObjectAnswered (now (object .entry)) b (now (forms .entry)) total (now (definitions .entry)) many (now (c .entry)) used (now (output .entry)) r (now (output .exit)) ⌝ }
 {
     match objects::read_whole_object(object, c, used) {

@@ -21,4 +21,4 @@ answer-program-spec =
     (λ c. search needs)  -- same-length-5
     (λ c. search needs)  -- same-length-6
     (λ c. search needs)  -- same-length-7
-    (λ c. search (texts-got, c .before .before .before .before .before .before .before .before .before .before .before .before .before .before .before .before .before .before .before .before .before .before .before .before .before .before .before .before .before .before .pre)))  -- returns-2
+    (λ c. search texts-got))  -- returns-2
