@@ -87,7 +87,7 @@ fn rules() -> Vec<u8> {
     filled(8192, "main=plan3.total0;\n", &pieces, "")
 }
 
-/// A long construction as the first part of 31 chains in each other: its records move 31 times.
+/// A long construction as the first part of 32 chains in each other: its records move 32 times.
 fn nested_chains() -> Vec<u8> {
     filled(8192, &format!("main={}[", "(".repeat(31)), &["255r,"], &format!("id]{}.id;", ".tl)".repeat(31)))
 }
@@ -97,17 +97,18 @@ fn day() -> Vec<u8> {
     filled(16384, "<", &["<OPEN,#,<12,-3>>,", "<SHUT,<ROOM4,2147483647>,<>>,", "<KITCHEN,1,2,3,4,<5,<6>>>,"], "END>")
 }
 
-/// The least nanoseconds of one call, over rounds of calls that go by turns.
+/// The least nanoseconds of one call, over short rounds that go by turns, so that other work on the machine disturbs neither
+/// reader's best round.
 fn time(mut proved: impl FnMut() -> u64, mut plain: impl FnMut() -> u64) -> (f64, f64) {
     let mut best = (f64::MAX, f64::MAX);
     let round = |f: &mut dyn FnMut() -> u64| {
         let start = Instant::now();
-        for _ in 0..20 {
+        for _ in 0..5 {
             black_box(f());
         }
-        start.elapsed().as_nanos() as f64 / 20.0
+        start.elapsed().as_nanos() as f64 / 5.0
     };
-    for _ in 0..200 {
+    for _ in 0..1000 {
         best.0 = best.0.min(round(&mut proved));
         best.1 = best.1.min(round(&mut plain));
     }
@@ -141,7 +142,10 @@ fn main() {
     let mut l = Lent { forms: vec![0; 8192], cells: vec![0; 32768], definitions: vec![0; 512] };
     time_program("rules", rules(), &mut l);
     time_program("names", filled(8192, "main=id", &[".household", ".window4", ".tl"], ";"), &mut l);
-    time_program("a construction in 31 chains", nested_chains(), &mut l);
+    time_program("the word `or`, as often as there are forms", format!("main=or{};", ".or".repeat(2045)).into_bytes(), &mut l);
+    time_program("the last word of the table", filled(8192, "main=id", &[".trans"], ";"), &mut l);
+    time_program("128 definitions", (0..128).map(|i| format!("n{i}={}id;", "@".repeat(i % 31))).collect::<String>().into_bytes(), &mut l);
+    time_program("a construction in 32 chains", nested_chains(), &mut l);
     time_object("a day", day(), &mut l);
     time_object("one-digit numbers", filled(16384, "<", &["7,"], "7>"), &mut l);
     time_object("words", filled(16384, "<", &["ABCDEFGHIJKL,"], "A>"), &mut l);

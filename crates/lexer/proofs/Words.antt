@@ -14,7 +14,7 @@ use Rattle.language.specs.Bytes.{sameBytes}
 use Rattle.language.specs.Words.{Op, Entry, entry, ops}
 use Rattle.language.specs.Words as W
 use Rattle.language.specs.Judging.{findOp}
-use Rattle.lexer.specs.Vocabulary.{opCode, codeOf, ruleCode, rowOf, rowByte, spelledAt, ruleAt}
+use Rattle.lexer.specs.Vocabulary.{opCode, codeOf, ruleCode, rowOf, rowByte, Rows, spelledAt, ruleAt}
 use Rattle.lexer.proofs.Computed.{at, every}
 use Rattle.lexer.proofs.Spans.{slice-first, slice-none}
 
@@ -63,13 +63,19 @@ code-at k h = eqb→eq (opCode (getD ops k W.id)) k (at W.id rightCode ops tt k 
 unfoldable pub right : ℕ → ℕ → Bool
 right k x = eqb x (getD (rowOf (getD ops (k / 9) W.id)) (k % 9) 0)
 
-pub row-right : (t : List ℕ) → T (every right 0 t) → (k j : ℕ) → k ≤ 22 → j < 9 → 207 ≤ length t → getD t (k * 9 + j) 0 ≡ rowByte k j
+row-right : (t : List ℕ) → T (every right 0 t) → (k j : ℕ) → k ≤ 22 → j < 9 → 207 ≤ length t → getD t (k * 9 + j) 0 ≡ rowByte k j
 unfolding right rowByte
 row-right t ok k j h g n =
     let d : (k * 9 + j) / 9 ≡ k = omega arith in
     let m : (k * 9 + j) % 9 ≡ j = omega arith in
     let e = eqb→eq (getD t (k * 9 + j) 0) (getD (rowOf (getD ops ((k * 9 + j) / 9) W.id)) ((k * 9 + j) % 9) 0) (at 0 right t ok (k * 9 + j) (omega arith)) in
     rw (d, m) at e
+
+pub table-right : (t : List ℕ) → T (every right 0 t) → 207 ≤ length t → Rows t
+table-right t ok n = record { long = n; rows = λ k j h g. row-right t ok k j h g n }
+
+pub row-in : {t : List ℕ} {k j : ℕ} → Rows t → k ≤ 22 → j < 9 → getD t (k * 9 + j) 0 ≡ rowByte k j
+row-in r h g = r .rows _ _ h g
 
 -- no word has more than seven letters
 short : ℕ → Op → Bool

@@ -1,5 +1,6 @@
 -- The primitive words by their place in the table.
-use Prim.Native.Nat.{ℕ, zero, suc, _+_}
+use Prim.Native.Nat.{ℕ, zero, suc, _+_, _*_, _≤_, _<_}
+use mathlib.Core.Path.{_≡_}
 use mathlib.Core.List.{List, [], _∷_, _++_, map}
 use mathlib.Core.Option.{Option, some, none}
 use lib.ListN.{length, getD, replicate}
@@ -41,3 +42,8 @@ rowOf o = (48 + ruleCode (entry o .rule)) ∷ (48 + length (entry o .spelled)) �
 
 unfoldable pub rowByte : ℕ → ℕ → ℕ
 rowByte code j = getD (rowOf (getD ops code W.id)) j 0
+
+-- a table that holds every word's row
+pub record Rows (t : List ℕ) : Type 0 where
+  pub long : 207 ≤ length t
+  pub rows : (code j : ℕ) → code ≤ 22 → j < 9 → getD t (code * 9 + j) 0 ≡ rowByte code j

@@ -6,18 +6,50 @@ ghost use lib.Seq.{slice};
 ghost use Rattle.language.specs.Bytes.{sameBytes};
 ghost use Rattle.language.specs.Words.{ops};
 ghost use Rattle.language.specs.Judging.{findOp};
-ghost use Rattle.lexer.specs.Vocabulary.{rowByte, spelledAt, ruleAt, codeOf};
+ghost use Rattle.lexer.specs.Vocabulary.{rowByte, Rows, spelledAt, ruleAt, codeOf};
 
 // For each word, in the order of the definitions: its cell rule, its length, and its letters up to the seventh place.
 const TABLE: [u8; 207] =
     *b"02id     02tl     04atom   04null   02eq     02lt     06length 03add    03sub    03mul    03div    03and    02or     03not    15apndl  23tlr    37reverse34rotl   34rotr   45apndr  55distl  55distr  65trans  ";
 
+// All rows: made once for a search, and lent.
+fn table() -> [u8; 207]
+    ensures { λ r. ⌜ Rows r ⌝ }
+{
+    TABLE
+}
+
 // The byte j of a word's row.
-fn row_byte(code: u32, j: usize) -> u8
-    requires { ⌜ (code ≤ 22) × (j < 9) ⌝ }
+fn row_byte(rows: &[u8; 207], code: u32, j: usize) -> u8
+    requires { ⌜ Rows (now rows) × (code ≤ 22) × (j < 9) ⌝ }
     ensures { λ r. ⌜ r ≡ rowByte code j ⌝ }
 {
-    TABLE[(code as usize) * 9 + j]
+    rows[(code as usize) * 9 + j]
+}
+
+// The length of the word in row `code`, 0 past the table.
+fn row_length(rows: &[u8; 207], code: u32) -> usize
+    requires { ⌜ Rows (now rows) ⌝ }
+    ensures { λ r. ⌜ (r ≡ length (spelledAt code)) × (r ≤ 7) ⌝ }
+{
+    if 22 < code {
+        return 0;
+    }
+    (row_byte(rows, code, 1) - b'0') as usize
+}
+
+// The byte i of the word in row `code`, 0 past its end.
+fn row_letter(rows: &[u8; 207], code: u32, i: usize) -> u8
+    requires { ⌜ Rows (now rows) ⌝ }
+    ensures { λ r. ⌜ r ≡ getD (spelledAt code) i 0 ⌝ }
+{
+    if 22 < code {
+        return 0;
+    }
+    if row_length(rows, code) <= i {
+        return 0;
+    }
+    row_byte(rows, code, i + 2)
 }
 
 // The cell rule of the word with this code, 0 past the table.
@@ -27,43 +59,37 @@ pub fn cell_rule(code: u32) -> u32
     if 22 < code {
         return 0;
     }
-    (row_byte(code, 0) - b'0') as u32
+    let rows = table();
+    (row_byte(&rows, code, 0) - b'0') as u32
 }
 
 // The length of the word with this code, 0 past the table.
 pub fn word_length(code: u32) -> usize
     ensures { λ r. ⌜ (r ≡ length (spelledAt code)) × (r ≤ 7) ⌝ }
 {
-    if 22 < code {
-        return 0;
-    }
-    (row_byte(code, 1) - b'0') as usize
+    let rows = table();
+    row_length(&rows, code)
 }
 
 // The byte i of the word with this code, 0 past its end.
 pub fn word_byte(code: u32, i: usize) -> u8
     ensures { λ r. ⌜ r ≡ getD (spelledAt code) i 0 ⌝ }
 {
-    if 22 < code {
-        return 0;
-    }
-    if word_length(code) <= i {
-        return 0;
-    }
-    row_byte(code, i + 2)
+    let rows = table();
+    row_letter(&rows, code, i)
 }
 
-// Whether the bytes from `from` up to `to` are the word with this code.
-fn word_is(s: &[u8], from: usize, to: usize, code: u32) -> bool
-    requires { ⌜ (from ≤ to) × (to ≤ length (now s)) ⌝ }
+// Whether the bytes from `from` up to `to` are the word in row `code`.
+fn word_is(rows: &[u8; 207], s: &[u8], from: usize, to: usize, code: u32) -> bool
+    requires { ⌜ Rows (now rows) × (from ≤ to) × (to ≤ length (now s)) ⌝ }
     ensures { λ r. ⌜ r ≡ sameBytes (spelledAt code) (slice from to (now (s .entry))) ⌝ }
 {
-    if word_length(code) != to - from {
+    if row_length(rows, code) != to - from {
         return false;
     }
     let mut i = from;
     while i < to {
-        if word_byte(code, i - from) != s[i] {
+        if row_letter(rows, code, i - from) != s[i] {
             return false;
         }
         i += 1;
@@ -71,17 +97,26 @@ fn word_is(s: &[u8], from: usize, to: usize, code: u32) -> bool
     true
 }
 
-// The code of the word that stands from `from` up to `to`, 23 if none does.
-pub fn find_word(s: &[u8], from: usize, to: usize) -> u32
-    requires { ⌜ (from ≤ to) × (to ≤ length (now s)) ⌝ }
+// The first row whose word stands from `from` up to `to`, 23 if none does.
+fn find_row(rows: &[u8; 207], s: &[u8], from: usize, to: usize) -> u32
+    requires { ⌜ Rows (now rows) × (from ≤ to) × (to ≤ length (now s)) ⌝ }
     ensures { λ r. ⌜ r ≡ codeOf (findOp ops (slice from to (now (s .entry)))) ⌝ }
 {
     let mut code: u32 = 0;
     while code < 23 {
-        if word_is(s, from, to, code) {
+        if word_is(rows, s, from, to, code) {
             return code;
         }
         code += 1;
     }
     code
+}
+
+// The code of the word that stands from `from` up to `to`, 23 if none does.
+pub fn find_word(s: &[u8], from: usize, to: usize) -> u32
+    requires { ⌜ (from ≤ to) × (to ≤ length (now s)) ⌝ }
+    ensures { λ r. ⌜ r ≡ codeOf (findOp ops (slice from to (now (s .entry)))) ⌝ }
+{
+    let rows = table();
+    find_row(&rows, s, from, to)
 }

@@ -8,15 +8,19 @@ use Rattle.lexer.proofs.vocabulary.cell_rule.Tie as tie
 returns : tie.Need-returns
 returns c = search rule-past
 
--- (row_byte(code, 0) - b'0') as u32
+-- let rows = table();
+table-requires : tie.Need-table-requires
+table-requires c κs = search needs
+
+-- (row_byte(&rows, code, 0) - b'0') as u32
 row-byte-requires : tie.Need-row-byte-requires
 row-byte-requires c κs = search needs
 
--- (row_byte(code, 0) - b'0') as u32
+-- (row_byte(&rows, code, 0) - b'0') as u32
 sub-result : tie.Need-sub-result
-sub-result c = rule-low _ (c .before .if1 .left) (c .row-byte .ensures)
+sub-result c = rule-low _ (c .before .before .before .if1 .left) (c .row-byte .ensures)
 
--- (row_byte(code, 0) - b'0') as u32
+-- (row_byte(&rows, code, 0) - b'0') as u32
 cast-result : tie.Need-cast-result
 cast-result c = search needs
 
@@ -25,4 +29,5 @@ returns-2 : tie.Need-returns-2
 returns-2 c = search rule-is
 
 pub cell-rule-spec : {M : Type 1} → statement M
-cell-rule-spec = tie.close (tie.spec returns row-byte-requires sub-result cast-result returns-2)
+cell-rule-spec =
+    tie.close (tie.spec returns table-requires row-byte-requires sub-result cast-result returns-2)

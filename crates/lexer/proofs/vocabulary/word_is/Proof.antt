@@ -13,16 +13,16 @@ use Rattle.lexer.proofs.vocabulary.word_is.Statement.{statement}
 use Rattle.lexer.proofs.vocabulary.word_is.Tie as tie
 
 abbrev Inv-loop : tie.InvT-loop
-Inv-loop s from to code i₀ i = (sameBytes (spelledAt code) (slice from to s) ≡ sameBytes (drop (i - from) (spelledAt code)) (slice i to s)) × (from ≤ i) × (i ≤ to)
+Inv-loop rows s from to code i₀ i = (sameBytes (spelledAt code) (slice from to s) ≡ sameBytes (drop (i - from) (spelledAt code)) (slice i to s)) × (from ≤ i) × (i ≤ to)
 
 abbrev μ-loop : tie.MeasureT-loop
-μ-loop s from to code i₀ i = to - i
+μ-loop rows s from to code i₀ i = to - i
 
--- if word_length(code) != to - from {
-word-length-requires : tie.Need-word-length-requires Inv-loop μ-loop
-word-length-requires c κs = search needs
+-- if row_length(rows, code) != to - from {
+row-length-requires : tie.Need-row-length-requires Inv-loop μ-loop
+row-length-requires c κs = search needs
 
--- if word_length(code) != to - from {
+-- if row_length(rows, code) != to - from {
 sub-if1 : tie.Need-sub-if1 Inv-loop μ-loop
 sub-if1 c = search needs
 
@@ -34,15 +34,15 @@ returns c = search word-lengths
 loop-holds : tie.Need-loop-holds Inv-loop μ-loop
 loop-holds c = (search none-left, omega arith, omega arith)
 
--- if word_byte(code, i - from) != s[i] {
-sub-word-byte : tie.Need-sub-word-byte Inv-loop μ-loop
-sub-word-byte c = search needs
+-- if row_letter(rows, code, i - from) != s[i] {
+sub-row-letter : tie.Need-sub-row-letter Inv-loop μ-loop
+sub-row-letter c = search needs
 
--- if word_byte(code, i - from) != s[i] {
-word-byte-requires : tie.Need-word-byte-requires Inv-loop μ-loop
-word-byte-requires c κs = search needs
+-- if row_letter(rows, code, i - from) != s[i] {
+row-letter-requires : tie.Need-row-letter-requires Inv-loop μ-loop
+row-letter-requires c κs = search needs
 
--- if word_byte(code, i - from) != s[i] {
+-- if row_letter(rows, code, i - from) != s[i] {
 shared-slice-read-if2 : tie.Need-shared-slice-read-if2 Inv-loop μ-loop
 shared-slice-read-if2 c = search needs
 
@@ -62,10 +62,10 @@ loop-less c = search needs
 loop-again : tie.Need-loop-again Inv-loop μ-loop
 loop-again c =
     let l = c .before .before .before .before in
-    let e = word-on _ _ _ _ _ (l .before .before .before .before .pre .1) (l .before .before .word-length .ensures .0) (l .before .if1 .left) (omega arith) (c .before .before .word-byte .ensures) (omega arith) (l .loop .inv .0) (c .if2 .left) in
+    let e = word-on _ _ _ _ _ (l .before .before .before .before .pre .2) (l .before .before .row-length .ensures .0) (l .before .if1 .left) (omega arith) (c .before .before .row-letter .ensures) (omega arith) (l .loop .inv .0) (c .if2 .left) in
     (e, omega arith, omega arith)
 
--- fn word_is(s: &[u8], from: usize, to: usize, code: u32) -> bool
+-- fn word_is(rows: &[u8; 207], s: &[u8], from: usize, to: usize, code: u32) -> bool
 returns-3 : tie.Need-returns-3 Inv-loop μ-loop
 returns-3 c = search word-end
 
@@ -75,12 +75,12 @@ word-is-spec =
     (tie.spec
     Inv-loop
     μ-loop
-    word-length-requires
+    row-length-requires
     sub-if1
     returns
     loop-holds
-    sub-word-byte
-    word-byte-requires
+    sub-row-letter
+    row-letter-requires
     shared-slice-read-if2
     returns-2
     add-i

@@ -1,4 +1,4 @@
--- `find_word` gives the first word of the table that stands there. The invariant: it is found in the table exactly if it is
+-- `find_row` gives the first word of the table that stands there. The invariant: it is found in the table exactly if it is
 -- found in what is left of it. The measure is what is left. Assumes nothing.
 use borrow.Author.Needs.{needs}
 use native.Mathlib.Omega.{arith}
@@ -10,20 +10,20 @@ use Rattle.language.specs.Words.{ops}
 use Rattle.language.specs.Judging.{findOp}
 use Rattle.lexer.specs.Vocabulary.{codeOf}
 use Rattle.lexer.proofs.Words.{find-on, find-here, find-none}
-use Rattle.lexer.proofs.vocabulary.find_word.Statement.{statement}
-use Rattle.lexer.proofs.vocabulary.find_word.Tie as tie
+use Rattle.lexer.proofs.vocabulary.find_row.Statement.{statement}
+use Rattle.lexer.proofs.vocabulary.find_row.Tie as tie
 
 abbrev Inv-loop : tie.InvT-loop
-Inv-loop s from to code₀ code = (codeOf (findOp ops (slice from to s)) ≡ codeOf (findOp (drop code ops) (slice from to s))) × (code ≤ 23)
+Inv-loop rows s from to code₀ code = (codeOf (findOp ops (slice from to s)) ≡ codeOf (findOp (drop code ops) (slice from to s))) × (code ≤ 23)
 
 abbrev μ-loop : tie.MeasureT-loop
-μ-loop s from to code₀ code = 23 - code
+μ-loop rows s from to code₀ code = 23 - code
 
 -- while code < 23 {
 loop-holds : tie.Need-loop-holds Inv-loop μ-loop
 loop-holds c = search needs
 
--- if word_is(s, from, to, code) {
+-- if word_is(rows, s, from, to, code) {
 word-is-requires : tie.Need-word-is-requires Inv-loop μ-loop
 word-is-requires c κs = search needs
 
@@ -43,12 +43,12 @@ loop-less c = search needs
 loop-again : tie.Need-loop-again Inv-loop μ-loop
 loop-again c = (search find-on, omega arith)
 
--- pub fn find_word(s: &[u8], from: usize, to: usize) -> u32
+-- fn find_row(rows: &[u8; 207], s: &[u8], from: usize, to: usize) -> u32
 returns-2 : tie.Need-returns-2 Inv-loop μ-loop
 returns-2 c = search find-none
 
-pub find-word-spec : {M : Type 1} → statement M
-find-word-spec =
+pub find-row-spec : {M : Type 1} → statement M
+find-row-spec =
     tie.close
     (tie.spec
     Inv-loop
