@@ -26,15 +26,13 @@ use Rattle.cells.specs.Cells.{Rep, Room, free}
 use Rattle.cells.proofs.Reps.{same-refl, rep-ext}
 use Rattle.primitives.specs.Ends.{Made, Agree, Gives, gives-value, gives-bottom, gives-spent, Leaf, Sinks as Sinks-leaf}
 use Rattle.linker.specs.Linked.{FormIs, is-op, is-select, is-select-right, is-name, is-chain, is-construct, is-insert, is-all, is-condition, is-while, is-constant, is-bu, FormAt, form-at, DefAt, kindAt, constantAt, linkAt}
-use Rattle.evaluator.specs.Applying.{Setting, by, At, Given, Applied, Falls, Sinks, Chained, Built, Mapped, Inserted, Bound, Chosen, Repeated, Named, nameBy, Ran}
+use Rattle.evaluator.specs.Applying.{Setting, by, At, Given, Alone, a-word, a-select, a-select-right, a-constant, no-kind, Applied, Falls, Sinks, Chained, Built, Mapped, Inserted, Bound, Chosen, Repeated, Named, nameBy, Copied, Ran}
 use Rattle.primitives.specs.Leaves.{Coded}
+use Rattle.evaluator.proofs.Copies.{def-copied}
 use Rattle.evaluator.proofs.Steps.{Since, since-step, ends-since, ends-eq, gives-eq, kept-refl, agree-refl, given-charged, sinks-le}
 
--- the number is no kind
-pub record Other (κ : ℕ) : Type 0 where
-  pub not1 : κ ≡ 1 → ⊥
-  pub not2 : κ ≡ 2 → ⊥
-  pub not3 : κ ≡ 3 → ⊥
+-- the number is no kind of a form with parts, and no name's
+pub record Bare (κ : ℕ) : Type 0 where
   pub not4 : κ ≡ 4 → ⊥
   pub not5 : κ ≡ 5 → ⊥
   pub not6 : κ ≡ 6 → ⊥
@@ -42,14 +40,12 @@ pub record Other (κ : ℕ) : Type 0 where
   pub not8 : κ ≡ 8 → ⊥
   pub not9 : κ ≡ 9 → ⊥
   pub not10 : κ ≡ 10 → ⊥
-  pub not12 : κ ≡ 12 → ⊥
   pub not16 : κ ≡ 16 → ⊥
 
 -- what was done at each kind
 pub data Dispatched (F C W : List ℕ) (top i : ℕ) (v : Val) (m : Meter) : ℕ → Ended → List ℕ → List ℕ → Type 0 where
-  on-word : {code : ℕ} {r : Ended} {C₁ : List ℕ} → code ≡ field F i 2 → Coded C v m code r C₁ → Dispatched F C W top i v m 1 r C₁ W
-  on-select : {k : ℕ} {r : Ended} → k ≡ field F i 2 → Leaf C v m (select k) r C → Dispatched F C W top i v m 2 r C W
-  on-select-right : {k : ℕ} {r : Ended} → k ≡ field F i 2 → Leaf C v m (selectRight k) r C → Dispatched F C W top i v m 3 r C W
+  on-word : {r : Ended} {C₁ : List ℕ} → Alone F C i v m 1 r C₁ → Dispatched F C W top i v m 1 r C₁ W
+  on-leaf : {κ : ℕ} {r : Ended} {C₁ : List ℕ} → Bare κ → Alone F C i v m κ r C₁ → Dispatched F C W top i v m κ r C₁ W
   on-name : {d : ℕ} {r : Ended} {C₁ W₁ : List ℕ} → d ≡ field F i 1 → Named F C W top d v m r C₁ W₁ → Dispatched F C W top i v m 4 r C₁ W₁
   on-chain : {j : ℕ} {r : Ended} {C₁ W₁ : List ℕ} → j ≡ field F i 2 → Chained F C W top j v m r C₁ W₁ → Dispatched F C W top i v m 5 r C₁ W₁
   on-construct : {h many : ℕ} {r : Ended} {C₁ W₁ : List ℕ} → h ≡ (i + 1) % 4294967296 → many ≡ field F i 1 → Built F C W top h many v m r C₁ W₁ → Dispatched F C W top i v m 6 r C₁ W₁
@@ -57,9 +53,7 @@ pub data Dispatched (F C W : List ℕ) (top i : ℕ) (v : Val) (m : Meter) : ℕ
   on-all : {h : ℕ} {r : Ended} {C₁ W₁ : List ℕ} → h ≡ (i + 1) % 4294967296 → Mapped F C W top h v m r C₁ W₁ → Dispatched F C W top i v m 8 r C₁ W₁
   on-condition : {h : ℕ} {r : Ended} {C₁ W₁ : List ℕ} → h ≡ (i + 1) % 4294967296 → Chosen F C W top h v m r C₁ W₁ → Dispatched F C W top i v m 9 r C₁ W₁
   on-while : {h : ℕ} {r : Ended} {C₁ W₁ : List ℕ} → h ≡ (i + 1) % 4294967296 → Repeated F C W top h v m r C₁ W₁ → Dispatched F C W top i v m 10 r C₁ W₁
-  on-constant : {u : Val} → u ≡ constantAt F i → Dispatched F C W top i v m 12 (Done u m) C W
   on-bu : {h : ℕ} {a : Val} {r : Ended} {C₁ W₁ : List ℕ} → h ≡ (i + 1) % 4294967296 → a ≡ constantAt F i → Bound F C W top h a v m r C₁ W₁ → Dispatched F C W top i v m 16 r C₁ W₁
-  on-other : {κ : ℕ} → Other κ → Dispatched F C W top i v m κ (Stop 21 m) C W
 
 -- a word ends without the ring
 leaf-ends : {C C₁ : List ℕ} (W : List ℕ) (top : ℕ) {m : Meter} {e : Out Obj} (r : Ended) → length W ≡ 16384 → Sinks-leaf r m → Gives C m C₁ e r → Ends C W top m e C₁ W r
@@ -80,14 +74,36 @@ constant-here {C = C} {W} top {u = u} {m} {y = y} g p = ends-done {v = u} {m′ 
   names = refl;
 })
 
+-- a form with no parts
+alone : {F C W C₁ : List ℕ} {κ top i : ℕ} {S : Setting} {k : ℕ} {v : Val} {m : Meter} {f : Form} {x : Obj} (r : Ended) → Bare κ → FormIs F (S .cells) (S .few) (S .root) κ i f → Alone F C i v m κ r C₁ → Given F S k C W m v x → Ends C W top m (inside (by S k) k one (S .prog) f x m) C₁ W r
+alone {top = top} r h (is-op {o = o} p) (a-word l) g = leaf top r (l .means o (sym p)) g
+alone {C = C} {top = top} {v = v} {m = m} r h (is-select p) (a-select l) g = leaf top r (subst (λ (j : ℕ). Leaf C v m (select j) r C) p l) g
+alone {C = C} {top = top} {v = v} {m = m} r h (is-select-right p) (a-select-right l) g = leaf top r (subst (λ (j : ℕ). Leaf C v m (selectRight j) r C) p l) g
+alone {top = top} r h (is-constant p) a-constant g = constant-here top g p
+alone r h (is-op p) (no-kind n1 n2 n3 n12) g = absurd (n1 refl)
+alone r h (is-select p) (no-kind n1 n2 n3 n12) g = absurd (n2 refl)
+alone r h (is-select-right p) (no-kind n1 n2 n3 n12) g = absurd (n3 refl)
+alone r h (is-constant p) (no-kind n1 n2 n3 n12) g = absurd (n12 refl)
+alone r h (is-name n p) a g = absurd (h .not4 refl)
+alone r h (is-chain p) a g = absurd (h .not5 refl)
+alone r h (is-construct e p) a g = absurd (h .not6 refl)
+alone r h (is-insert p) a g = absurd (h .not7 refl)
+alone r h (is-all p) a g = absurd (h .not8 refl)
+alone r h (is-condition a a₁ a₂) z g = absurd (h .not9 refl)
+alone r h (is-while a a₁) z g = absurd (h .not10 refl)
+alone r h (is-bu p p₁) z g = absurd (h .not16 refl)
+
+-- the kind of words is bare
+bare-word : Bare 1
+bare-word = record { not4 = λ e. absurd (omega arith); not5 = λ e. absurd (omega arith); not6 = λ e. absurd (omega arith); not7 = λ e. absurd (omega arith); not8 = λ e. absurd (omega arith); not9 = λ e. absurd (omega arith); not10 = λ e. absurd (omega arith); not16 = λ e. absurd (omega arith) }
+
 -- the first part's record
 behind : (i h : ℕ) → i < 2048 → h ≡ (i + 1) % 4294967296 → i + 1 ≡ h
 behind i h l e = omega arith
 
 dispatch : {F C W C₁ W₁ : List ℕ} {κ top i : ℕ} {v : Val} {m : Meter} {f : Form} {x : Obj} {r : Ended} (S : Setting) (k : ℕ) → i < 2048 → FormIs F (S .cells) (S .few) (S .root) κ i f → Dispatched F C W top i v m κ r C₁ W₁ → Given F S k C W m v x → Ends C W top m (inside (by S k) k one (S .prog) f x m) C₁ W₁ r
-dispatch {top = top} {r = r} S k b (is-op {o = o} p) (on-word q l) g = leaf top r (l .means o (sym (q ∙ p))) g
-dispatch {C = C} {top = top} {v = v} {m = m} {r = r} S k b (is-select {k = n} p) (on-select q l) g = leaf top r (subst (λ (j : ℕ). Leaf C v m (select j) r C) (q ∙ p) l) g
-dispatch {C = C} {top = top} {v = v} {m = m} {r = r} S k b (is-select-right {k = n} p) (on-select-right q l) g = leaf top r (subst (λ (j : ℕ). Leaf C v m (selectRight j) r C) (q ∙ p) l) g
+dispatch {r = r} S k b p (on-word a) g = alone r bare-word p a g
+dispatch {r = r} S k b p (on-leaf h a) g = alone r h p a g
 dispatch {x = x} S k b (is-name {w = w} n p) (on-name q c) g = c .means S k w x n (q ∙ p) g
 dispatch {x = x} S k b (is-chain {fs = fs} p) (on-chain q c) g = c .means S k fs x (rw q p) g
 dispatch {i = i} {x = x} S k b (is-construct {fs = fs} e p) (on-construct {h = h} q z c) g = c .means S k fs x (e ∙ sym z) (rw (behind i h b q) at p) g
@@ -95,29 +111,22 @@ dispatch {i = i} {x = x} S k b (is-insert {f = f} p) (on-insert {h = h} q c) g =
 dispatch {i = i} {x = x} S k b (is-all {f = f} p) (on-all {h = h} q c) g = c .means S k f x (rw (behind i h b q) at p) g
 dispatch {i = i} {x = x} S k b (is-condition {p = p} {f = f} {g = f₂} a a₁ a₂) (on-condition {h = h} q c) g = c .means S k p f f₂ x (rw (behind i h b q) at a) (rw (behind i h b q) at a₁) (rw (behind i h b q) at a₂) g
 dispatch {i = i} {x = x} S k b (is-while {p = p} {f = f} a a₁) (on-while {h = h} q c) g = c .means S k p f x (rw (behind i h b q) at a) (rw (behind i h b q) at a₁) g
-dispatch {top = top} S k b (is-constant p) (on-constant q) g = constant-here top g (rw q p)
 dispatch {i = i} {x = x} S k b (is-bu {f = f} {x = y} p p₁) (on-bu {h = h} q z c) g = c .means S k f y x (rw (behind i h b q) at p) (rw z p₁) g
-dispatch S k b (is-op p) (on-other h) g = absurd (h .not1 refl)
-dispatch S k b (is-select p) (on-other h) g = absurd (h .not2 refl)
-dispatch S k b (is-select-right p) (on-other h) g = absurd (h .not3 refl)
-dispatch S k b (is-name n p) (on-other h) g = absurd (h .not4 refl)
-dispatch S k b (is-chain p) (on-other h) g = absurd (h .not5 refl)
-dispatch S k b (is-construct e p) (on-other h) g = absurd (h .not6 refl)
-dispatch S k b (is-insert p) (on-other h) g = absurd (h .not7 refl)
-dispatch S k b (is-all p) (on-other h) g = absurd (h .not8 refl)
-dispatch S k b (is-condition a a₁ a₂) (on-other h) g = absurd (h .not9 refl)
-dispatch S k b (is-while a a₁) (on-other h) g = absurd (h .not10 refl)
-dispatch S k b (is-constant p) (on-other h) g = absurd (h .not12 refl)
-dispatch S k b (is-bu p p₁) (on-other h) g = absurd (h .not16 refl)
 
 leaf-sinks : (r : Ended) (m : Meter) → Sinks-leaf r m → Sinks r m
 leaf-sinks (Done v k) m s = s .0
 leaf-sinks (Stop n k) m s = tt
 
+alone-sinks : {F C C₁ : List ℕ} {κ i : ℕ} {v : Val} {m : Meter} (r : Ended) → Alone F C i v m κ r C₁ → Sinks r m
+alone-sinks {m = m} r (a-word l) = leaf-sinks r m (l .sinks)
+alone-sinks {m = m} r (a-select l) = leaf-sinks r m (l .sinks)
+alone-sinks {m = m} r (a-select-right l) = leaf-sinks r m (l .sinks)
+alone-sinks r a-constant = omega arith
+alone-sinks r (no-kind n1 n2 n3 n12) = tt
+
 dispatch-sinks : {F C W C₁ W₁ : List ℕ} {κ top i : ℕ} {v : Val} {m : Meter} (r : Ended) → Dispatched F C W top i v m κ r C₁ W₁ → Sinks r m
-dispatch-sinks {m = m} r (on-word q l) = leaf-sinks r m (l .sinks)
-dispatch-sinks {m = m} r (on-select q l) = leaf-sinks r m (l .sinks)
-dispatch-sinks {m = m} r (on-select-right q l) = leaf-sinks r m (l .sinks)
+dispatch-sinks r (on-word a) = alone-sinks r a
+dispatch-sinks r (on-leaf h a) = alone-sinks r a
 dispatch-sinks r (on-name q c) = c .sinks
 dispatch-sinks r (on-chain q c) = c .sinks
 dispatch-sinks r (on-construct q z c) = c .sinks
@@ -125,9 +134,7 @@ dispatch-sinks r (on-insert q c) = c .sinks
 dispatch-sinks r (on-all q c) = c .sinks
 dispatch-sinks r (on-condition q c) = c .sinks
 dispatch-sinks r (on-while q c) = c .sinks
-dispatch-sinks r (on-constant q) = omega arith
 dispatch-sinks r (on-bu q z c) = c .sinks
-dispatch-sinks r (on-other h) = tt
 
 falls-after : (r : Ended) (m m₁ : Meter) → Sinks r m₁ → m₁ .steps + 1 ≡ m .steps → Falls r m
 falls-after (Done v k) m m₁ s e = omega arith
@@ -152,8 +159,21 @@ spent-means S f x m (suc k) e = step-asked m (λ m₁. inside (by S k) k one (S 
 pub apply-spent : {F C W : List ℕ} {top i : ℕ} {v : Val} {m m₁ : Meter} {ch : Charge} → ch ≡ stepCharge m → ch ≡ Spent m₁ → Applied F C W top i v m (Stop 22 m₁) C W
 apply-spent {m = m} {m₁} a b = record { falls = tt; means = λ S k f x at g. ends-stop (ran-out (spent-means S f x m k (sym a ∙ b)) refl (agree-refl m₁)) }
 
-pub apply-other : {F C W : List ℕ} {κ top i : ℕ} {v : Val} {m m₁ : Meter} {ch : Charge} → ch ≡ stepCharge m → ch ≡ Granted m₁ → κ ≡ kindAt F i → (κ ≡ 1 → ⊥) → (κ ≡ 2 → ⊥) → (κ ≡ 3 → ⊥) → (κ ≡ 4 → ⊥) → (κ ≡ 5 → ⊥) → (κ ≡ 6 → ⊥) → (κ ≡ 7 → ⊥) → (κ ≡ 8 → ⊥) → (κ ≡ 9 → ⊥) → (κ ≡ 10 → ⊥) → (κ ≡ 12 → ⊥) → (κ ≡ 16 → ⊥) → Applied F C W top i v m (Stop 21 m₁) C W
-apply-other a b q n1 n2 n3 n4 n5 n6 n7 n8 n9 n10 n12 n16 = applied a b q refl (on-other (record { not1 = n1; not2 = n2; not3 = n3; not4 = n4; not5 = n5; not6 = n6; not7 = n7; not8 = n8; not9 = n9; not10 = n10; not12 = n12; not16 = n16 }))
+pub apply-leaf : {F C W C₁ : List ℕ} {κ top i : ℕ} {v : Val} {m m₁ : Meter} {ch : Charge} {r : Ended} → ch ≡ stepCharge m → ch ≡ Granted m₁ → κ ≡ kindAt F i → (κ ≡ 4 → ⊥) → (κ ≡ 5 → ⊥) → (κ ≡ 6 → ⊥) → (κ ≡ 7 → ⊥) → (κ ≡ 8 → ⊥) → (κ ≡ 9 → ⊥) → (κ ≡ 10 → ⊥) → (κ ≡ 16 → ⊥) → Alone F C i v m₁ κ r C₁ → Applied F C W top i v m r C₁ W
+apply-leaf a b q n4 n5 n6 n7 n8 n9 n10 n16 l = applied a b q refl (on-leaf (record { not4 = n4; not5 = n5; not6 = n6; not7 = n7; not8 = n8; not9 = n9; not10 = n10; not16 = n16 }) l)
+
+-- ---- forms with no parts, by their kinds
+pub alone-word : {F C C₁ : List ℕ} {i κ code : ℕ} {v : Val} {m : Meter} {r : Ended} → κ ≡ 1 → code ≡ field F i 2 → Coded C v m code r C₁ → Alone F C i v m κ r C₁
+alone-word {F} {C} {C₁} {i} {v = v} {m} {r} e q l = subst (λ (n : ℕ). Alone F C i v m n r C₁) (sym e) (a-word (subst (λ (n : ℕ). Coded C v m n r C₁) q l))
+
+pub alone-select : {F C : List ℕ} {i κ n : ℕ} {v : Val} {m : Meter} {r : Ended} → κ ≡ 2 → n ≡ field F i 2 → Leaf C v m (select n) r C → Alone F C i v m κ r C
+alone-select {F} {C} {i} {v = v} {m} {r} e q l = subst (λ (n : ℕ). Alone F C i v m n r C) (sym e) (a-select (subst (λ (n : ℕ). Leaf C v m (select n) r C) q l))
+
+pub alone-select-right : {F C : List ℕ} {i κ n : ℕ} {v : Val} {m : Meter} {r : Ended} → κ ≡ 3 → n ≡ field F i 2 → Leaf C v m (selectRight n) r C → Alone F C i v m κ r C
+alone-select-right {F} {C} {i} {v = v} {m} {r} e q l = subst (λ (n : ℕ). Alone F C i v m n r C) (sym e) (a-select-right (subst (λ (n : ℕ). Leaf C v m (selectRight n) r C) q l))
+
+pub alone-constant : {F C : List ℕ} {i κ : ℕ} {v u : Val} {m : Meter} → κ ≡ 12 → u ≡ constantAt F i → Alone F C i v m κ (Done u m) C
+alone-constant {F} {C} {i} {v = v} {u} {m} e q = subst (λ (n : ℕ). Alone F C i v m n (Done u m) C) (sym e) (subst (λ (x : Val). Alone F C i v m 12 (Done x m) C) (sym q) a-constant)
 
 -- ---- a whole run
 main-name : IsName (bytes "main")
@@ -175,10 +195,10 @@ run-means {C = C} {W} {m = m} {x = x} S (suc k) l e c n q g =
     ends-eq (step-asked m (λ m₁. inside (by S k) k one (S .prog) mainForm x m₁) ∙ ap (λ u. onCharge u noStep (λ m₁. inside (by S k) k one (S .prog) mainForm x m₁)) e)
     (ends-since (since-step C W 0 c) (n .means S k (bytes "main") x main-name q (given-charged 1 0 k c (omega arith) g)))
 
-pub ran : {F C W C₁ W₁ : List ℕ} {d : ℕ} {v : Val} {m m₁ : Meter} {ch : Charge} {r : Ended} → ch ≡ stepCharge m → ch ≡ Granted m₁ → length W ≡ 16384 → Named F C W 0 d v m₁ r C₁ W₁ → Ran F C d v m r C₁
-ran {C = C} {m = m} a b l n =
+pub ran : {F T C W C₁ W₁ : List ℕ} {d : ℕ} {v : Val} {m m₁ : Meter} {ch : Charge} {r : Ended} → ch ≡ stepCharge m → ch ≡ Granted m₁ → Copied F T → length W ≡ 16384 → Named T C W 0 d v m₁ r C₁ W₁ → Ran F C d v m r C₁
+ran {C = C} {m = m} a b t l n =
     let e = sym a ∙ b in
     record {
       means = λ P root x ds q rm p. ends-gives (run-means (record { prog = P; root = root; cells = C; few = free C m }) (m .steps) (omega arith) e (step-granted m e) n q
-          (record { defs = ds; still = same-refl C (free C m); low = omega arith; room = rm; ring = l; fuel = omega arith; arg = p }));
+          (record { defs = λ w i. def-copied t (ds w i); still = same-refl C (free C m); low = omega arith; room = rm; ring = l; fuel = omega arith; arg = p }));
     }

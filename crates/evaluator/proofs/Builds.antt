@@ -24,11 +24,11 @@ use Rattle.evaluator.proofs.Steps.{Since, since, since-refl, free-up, g
 use Rattle.evaluator.proofs.Waits.{Waiting, wait-start, wait-next, wait-stop, wait-closed, length-hold}
 
 -- ---- a value that waits
-pub slot-done : {F C W C₁ W₁ W₂ : List ℕ} {t i : ℕ} {v y : Val} {m k : Meter} {r : Ended} → Applied F C W t i v m r C₁ W₁ → r ≡ Done y k → W₂ ≡ holdAt W₁ t y → length W₁ ≡ length W → Slotted F C W t i v m (Done y k) C₁ W₂
-slot-done {W₁ = W₁} a e w l = record { mid = W₁; long = l; app = applied-as e a; put = w }
+pub slot-done : {F C W C₁ W₁ W₂ : List ℕ} {t i : ℕ} {v y : Val} {m k : Meter} {r : Ended} → Applied F C W t i v m r C₁ W₁ → r ≡ Done y k → W₂ ≡ holdAt W₁ t y → Slotted F C W t i v m (Done y k) C₁ W₂
+slot-done {W₁ = W₁} a e w = record { mid = W₁; app = applied-as e a; put = w }
 
-pub slot-stop : {F C W C₁ W₁ : List ℕ} {t i a : ℕ} {v : Val} {m k : Meter} {r : Ended} → Applied F C W t i v m r C₁ W₁ → r ≡ Stop a k → length W₁ ≡ length W → Slotted F C W t i v m (Stop a k) C₁ W₁
-slot-stop {W₁ = W₁} a e l = record { mid = W₁; long = l; app = applied-as e a; put = tt }
+pub slot-stop : {F C W C₁ W₁ : List ℕ} {t i a : ℕ} {v : Val} {m k : Meter} {r : Ended} → Applied F C W t i v m r C₁ W₁ → r ≡ Stop a k → Slotted F C W t i v m (Stop a k) C₁ W₁
+slot-stop {W₁ = W₁} a e = record { mid = W₁; app = applied-as e a; put = tt }
 
 slotted-as : {F C W C₁ W₁ : List ℕ} {t i : ℕ} {v : Val} {m : Meter} {r r′ : Ended} → r ≡ r′ → Slotted F C W t i v m r C₁ W₁ → Slotted F C W t i v m r′ C₁ W₁
 slotted-as {F} {C} {W} {C₁} {W₁} {t} {i} {v} {m} e a = subst (λ r. Slotted F C W t i v m r C₁ W₁) e a
@@ -49,7 +49,6 @@ pub record Building (F Cs Ws : List ℕ) (top h many : ℕ) (v : Val) (m : Meter
   pub fits : j < 4294967296
   pub sinks : n .steps ≤ m .steps
   pub longC : length C ≡ length Cs
-  pub longW : length W ≡ length Ws
   pub means : (S : Setting) (k : ℕ) (fs : Forms) (x : Obj) → count fs ≡ many → AllAt F S h fs → Given F S k Cs Ws m v x → BuildNow F S k Cs Ws top many v m x (constructBy (by S k) fs x m) C W j q n
 
 pub build-start : {F C W : List ℕ} {top h many : ℕ} {v : Val} {m : Meter} → h < 4294967296 → Building F C W top h many v m C W h 0 m
@@ -58,7 +57,6 @@ build-start {F} {C} {W} {top} {m = m} fj = record {
   fits = fj;
   sinks = omega arith;
   longC = refl;
-  longW = refl;
   means = λ S k fs x ct p g. record { fs = fs; left = omega arith; at = p; given = g; waits = wait-start C W top m (constructBy (by S k) fs x) };
 }
 
@@ -68,14 +66,13 @@ step-build {W₁ = W₁} {top = top} {y = y} {x = x} S k q l ct (a-part {f = f} 
     let u = gave (a .means S k f x fa g) in
     record { fs = fs; left = omega arith; at = ps; given = given-held (given-again g (a .falls) u) (length-hold W₁ ((top + q) % 4096) y ∙ u .ring); waits = wait-next q (by S k f x) (constructBy (by S k) fs x) (few-cells (g .room) .0) b u }
 
-build-next : {F Cs Ws C W C₁ W₁ W₂ : List ℕ} {top h many j j₁ q : ℕ} {v y : Val} {m n n₁ : Meter} → q < many → Building F Cs Ws top h many v m C W j q n → Applied F C W ((top + q) % 4096) j v n (Done y n₁) C₁ W₁ → W₂ ≡ holdAt W₁ ((top + q) % 4096) y → j₁ ≡ linkAt F j → j₁ < 4294967296 → length C₁ ≡ length C → length W₁ ≡ length W → Building F Cs Ws top h many v m C₁ W₂ j₁ (q + 1) n₁
-build-next {W₁ = W₁} {top = top} {q = q} {y = y} l b a w z fj lc lw =
+build-next : {F Cs Ws C W C₁ W₁ W₂ : List ℕ} {top h many j j₁ q : ℕ} {v y : Val} {m n n₁ : Meter} → q < many → Building F Cs Ws top h many v m C W j q n → Applied F C W ((top + q) % 4096) j v n (Done y n₁) C₁ W₁ → W₂ ≡ holdAt W₁ ((top + q) % 4096) y → j₁ ≡ linkAt F j → j₁ < 4294967296 → length C₁ ≡ length C → Building F Cs Ws top h many v m C₁ W₂ j₁ (q + 1) n₁
+build-next {q = q} l b a w z fj lc =
     rw w (record {
       most = omega arith;
       fits = fj;
       sinks = omega (arith, a .falls, b .sinks);
       longC = lc ∙ b .longC;
-      longW = length-hold W₁ ((top + q) % 4096) y ∙ lw ∙ b .longW;
       means = λ S k fs x ct p g. let h = b .means S k fs x ct p g in rw z (step-build S k q l (h .left) (h .at) (h .given) (h .waits) a);
     })
 
@@ -86,7 +83,7 @@ stop-build {x = x} S k q l ct (a-part {f = f} {fs = fs} fa ps) g b a = wait-stop
 pub build-turn : {F Cs Ws C W C₁ W₂ : List ℕ} {top h many j j₁ q t : ℕ} {v y : Val} {m n n₁ : Meter} {r : Ended} → q < many → Building F Cs Ws top h many v m C W j q n → t ≡ (top + q) % 4096 → Slotted F C W t j v n r C₁ W₂ → r ≡ Done y n₁ → j₁ ≡ linkAt F j → j₁ < 4294967296 → length C₁ ≡ length C → Building F Cs Ws top h many v m C₁ W₂ j₁ (q + 1) n₁
 build-turn {F} {C = C} {W} {C₁} {W₂} {j = j} {v = v} {y = y} {n = n} {n₁} l b te s e z fj lc =
     let a = subst (λ (t : ℕ). Slotted F C W t j v n (Done y n₁) C₁ W₂) te (slotted-as e s) in
-    build-next l b (a .app) (a .put) z fj lc (a .long)
+    build-next l b (a .app) (a .put) z fj lc
 
 pub build-halt : {F Cs Ws C W C₁ W₂ : List ℕ} {top h many j q t a : ℕ} {v : Val} {m n n₁ : Meter} {r : Ended} → q < many → Building F Cs Ws top h many v m C W j q n → Slotted F C W t j v n r C₁ W₂ → r ≡ Stop a n₁ → Built F Cs Ws top h many v m (Stop a n₁) C₁ W₂
 build-halt {q = q} l b s e =
@@ -119,7 +116,6 @@ pub record Mapping (F Cs Ws : List ℕ) (top g many : ℕ) (v : Val) (m : Meter)
   pub most : q ≤ many
   pub sinks : n .steps ≤ m .steps
   pub longC : length C ≡ length Cs
-  pub longW : length W ≡ length Ws
   pub means : (S : Setting) (k : ℕ) (f : Form) (xs : Objs) → At F S g f → Given F S k Cs Ws m v (seq xs) → MapNow F S k Cs Ws top many v m f (seq xs) (eachBy (by S k) f xs m) C W s q n
 
 -- a value whose tag is 3 stands for a sequence, any other for an atom
@@ -154,7 +150,6 @@ map-start {C = C} {W} {top} {m = m} sz = record {
   most = omega arith;
   sinks = omega arith;
   longC = refl;
-  longW = refl;
   means = λ S k f xs fa g. record { xs = xs; left = omega (arith, sz .means C (free C m) xs (few-cells (g .room) .1) (g .arg)); rep = g .arg; given = g; waits = wait-start C W top m (eachBy (by S k) f xs) };
 }
 
@@ -172,13 +167,12 @@ step-map {C = C} {W} {C₁} {W₁} {top} {y = y} {n = n} {n₁} {f} S k q (z :: 
       waits = wait-next q (by S k f z) (eachBy (by S k) f zs) (few-cells (g .room) .0) b p;
     }
 
-map-next : {F Cs Ws C W C₁ W₁ W₂ : List ℕ} {top g many q : ℕ} {v s s₁ u y : Val} {m n n₁ : Meter} → q < many → Mapping F Cs Ws top g many v m C W s q n → Headed C s u → Applied F C W ((top + q) % 4096) g u n (Done y n₁) C₁ W₁ → W₂ ≡ holdAt W₁ ((top + q) % 4096) y → Tailed C₁ s s₁ → length C₁ ≡ length C → length W₁ ≡ length W → Mapping F Cs Ws top g many v m C₁ W₂ s₁ (q + 1) n₁
-map-next {W₁ = W₁} {top = top} {q = q} {y = y} l b hd a w tl lc lw =
+map-next : {F Cs Ws C W C₁ W₁ W₂ : List ℕ} {top g many q : ℕ} {v s s₁ u y : Val} {m n n₁ : Meter} → q < many → Mapping F Cs Ws top g many v m C W s q n → Headed C s u → Applied F C W ((top + q) % 4096) g u n (Done y n₁) C₁ W₁ → W₂ ≡ holdAt W₁ ((top + q) % 4096) y → Tailed C₁ s s₁ → length C₁ ≡ length C → Mapping F Cs Ws top g many v m C₁ W₂ s₁ (q + 1) n₁
+map-next {q = q} l b hd a w tl lc =
     rw w (record {
       most = omega arith;
       sinks = omega (arith, a .falls, b .sinks);
       longC = lc ∙ b .longC;
-      longW = length-hold W₁ ((top + q) % 4096) y ∙ lw ∙ b .longW;
       means = λ S k f xs fa g. let h = b .means S k f xs fa g in step-map S k q (h .xs) l (h .left) fa (h .rep) (h .given) (h .waits) hd tl a;
     })
 
@@ -191,7 +185,7 @@ stop-map {C = C} {W} {n = n} {f = f} S k q (z :: zs) l ct fa r g b hd a =
 pub map-turn : {F Cs Ws C W C₁ W₂ : List ℕ} {top g many q t : ℕ} {v s s₁ u y : Val} {m n n₁ : Meter} {r : Ended} → q < many → Mapping F Cs Ws top g many v m C W s q n → t ≡ (top + q) % 4096 → Headed C s u → Slotted F C W t g u n r C₁ W₂ → r ≡ Done y n₁ → Tailed C₁ s s₁ → length C₁ ≡ length C → Mapping F Cs Ws top g many v m C₁ W₂ s₁ (q + 1) n₁
 map-turn {F} {C = C} {W} {C₁} {W₂} {g = g} {u = u} {y = y} {n = n} {n₁} l b te hd s e tl lc =
     let a = subst (λ (t : ℕ). Slotted F C W t g u n (Done y n₁) C₁ W₂) te (slotted-as e s) in
-    map-next l b hd (a .app) (a .put) tl lc (a .long)
+    map-next l b hd (a .app) (a .put) tl lc
 
 pub map-halt : {F Cs Ws C W C₁ W₂ : List ℕ} {top g many q t a : ℕ} {v s u : Val} {m n n₁ : Meter} {r : Ended} → v .tag ≡ 3 → q < many → Mapping F Cs Ws top g many v m C W s q n → Headed C s u → Slotted F C W t g u n r C₁ W₂ → r ≡ Stop a n₁ → Mapped F Cs Ws top g v m (Stop a n₁) C₁ W₂
 map-halt {q = q} tg l b hd s e =

@@ -56,7 +56,6 @@ pub record Chaining (F Cs Ws : List ℕ) (top last : ℕ) (v₀ : Val) (m : Mete
   pub sinks : n .steps ≤ m .steps
   pub fits : j < 4294967296
   pub longC : length C ≡ length Cs
-  pub longW : length W ≡ length Ws
   pub means : (S : Setting) (k : ℕ) (fs : Forms) (x : Obj) → LastAt F S last fs → Given F S k Cs Ws m v₀ x → ChainNow F S k Cs Ws top m (chainBy (by S k) fs x m) C W j v n
 
 pub chain-start : {F C W : List ℕ} {top j : ℕ} {v : Val} {m : Meter} → j < 4294967296 → Chaining F C W top j v m C W j v m
@@ -64,7 +63,6 @@ chain-start {F} {C} {W} {top} {m = m} z = record {
   sinks = omega arith;
   fits = z;
   longC = refl;
-  longW = refl;
   means = λ S k fs x p g. record { fs = fs; x = x; parts = p; given = g; since = since-refl C W top m; whole = refl };
 }
 
@@ -81,14 +79,13 @@ step-chain {n = n} {x = x} S k z (one-more {f = f} {before = before} l fa ps q) 
       whole = w ∙ ap (λ h. chainBy (by S k) h x n) q ∙ chain-last (by S k) before f x n ∙ ap (λ h. bind h (chainBy (by S k) before)) (u .is);
     }
 
-pub chain-next : {F Cs Ws C W C₁ W₁ : List ℕ} {top last j j₁ : ℕ} {v₀ v y : Val} {m n n₁ : Meter} {r : Ended} → (j ≡ 0 → ⊥) → Chaining F Cs Ws top last v₀ m C W j v n → Applied F C W top j v n r C₁ W₁ → r ≡ Done y n₁ → j₁ ≡ linkAt F j → j₁ < 4294967296 → length C₁ ≡ length C → length W₁ ≡ length W → Chaining F Cs Ws top last v₀ m C₁ W₁ j₁ y n₁
-chain-next z c a e q fj lc lw =
+pub chain-next : {F Cs Ws C W C₁ W₁ : List ℕ} {top last j j₁ : ℕ} {v₀ v y : Val} {m n n₁ : Meter} {r : Ended} → (j ≡ 0 → ⊥) → Chaining F Cs Ws top last v₀ m C W j v n → Applied F C W top j v n r C₁ W₁ → r ≡ Done y n₁ → j₁ ≡ linkAt F j → j₁ < 4294967296 → length C₁ ≡ length C → Chaining F Cs Ws top last v₀ m C₁ W₁ j₁ y n₁
+chain-next z c a e q fj lc =
     let b = applied-as e a in
     record {
       sinks = omega (arith, b .falls, c .sinks);
       fits = fj;
       longC = lc ∙ c .longC;
-      longW = lw ∙ c .longW;
       means = λ S k fs x p g. let h = c .means S k fs x p g in rw q (step-chain S k z (h .parts) (h .given) (h .since) (h .whole) b);
     }
 
@@ -146,10 +143,10 @@ yes-fell a e = asked-as e a .falls
 pub no-fell : {F C W C₁ W₁ : List ℕ} {top h : ℕ} {v : Val} {m k : Meter} {r : Asked} → Questioned F C W top h v m r C₁ W₁ → r ≡ No k → k .steps < m .steps
 no-fell a e = asked-as e a .falls
 
-pub below-yes : {F C W C₁ W₁ : List ℕ} {top h : ℕ} {v : Val} {m k : Meter} {r : Asked} (t : ℕ) → Questioned F C W top h v m r C₁ W₁ → r ≡ Yes k → 4 * m .steps + 2 ≡ t → 4 * k .steps < t
+pub below-yes : {F C W C₁ W₁ : List ℕ} {top h : ℕ} {v : Val} {m k : Meter} {r : Asked} (t : ℕ) → Questioned F C W top h v m r C₁ W₁ → r ≡ Yes k → 4 * m .steps + 3 ≡ t → 4 * k .steps + 1 < t
 below-yes t a e q = omega (arith, yes-fell a e)
 
-pub below-no : {F C W C₁ W₁ : List ℕ} {top h : ℕ} {v : Val} {m k : Meter} {r : Asked} (t : ℕ) → Questioned F C W top h v m r C₁ W₁ → r ≡ No k → 4 * m .steps + 2 ≡ t → 4 * k .steps < t
+pub below-no : {F C W C₁ W₁ : List ℕ} {top h : ℕ} {v : Val} {m k : Meter} {r : Asked} (t : ℕ) → Questioned F C W top h v m r C₁ W₁ → r ≡ No k → 4 * m .steps + 3 ≡ t → 4 * k .steps + 1 < t
 below-no t a e q = omega (arith, no-fell a e)
 
 -- what the question's outcome was

@@ -2,6 +2,7 @@ pub mod Steps
 pub mod Chains
 pub mod Waits
 pub mod Builds
+pub mod Copies
 pub mod Repeats
 pub mod Pairs
 pub mod Applies

@@ -158,7 +158,6 @@ pub record InsertNow (F : List ℕ) (S : Setting) (k : ℕ) (Cs Ws : List ℕ) (
 pub record Inserting (F Cs Ws : List ℕ) (top g : ℕ) (v : Val) (m : Meter) (C W : List ℕ) (q : ℕ) (y : Val) (n : Meter) : Type 0 where
   pub sinks : n .steps ≤ m .steps
   pub longC : length C ≡ length Cs
-  pub longW : length W ≡ length Ws
   pub means : (S : Setting) (k : ℕ) (f : Form) (xs : Objs) → At F S g f → Given F S k Cs Ws m v (seq xs) → InsertNow F S k Cs Ws top v m f xs C W q y n
 
 last-of : (ev : Apply) (f : Form) (xs : Objs) (m : Meter) (q : ℕ) → q + 1 ≡ lengthOf xs → insertOn ev f (seq xs) m ≡ up ev f (pre xs q) (value (nthObj xs q) m)
@@ -172,7 +171,6 @@ pub insert-start : {F C W : List ℕ} {top g many : ℕ} {v y : Val} {m : Meter}
 insert-start {C = C} {W} {top} {many = many} {m = m} s z t = record {
   sinks = omega arith;
   longC = refl;
-  longW = refl;
   means = λ S k f xs fa g.
       let u = few-cells (g .room) .1 in
       let e = s .means C (free C m) xs u (g .arg) in
@@ -207,13 +205,12 @@ insert-end {q = q} {y = y} {n = n} tg z b =
           ends-done {v = y} {m′ = n} (record { obj = h .acc; is = h .whole ∙ ap (λ (j : ℕ). up (by S k) f (pre xs j) (value (h .acc) n)) e; made = record { rep = h .rep; same = h .since .same; room = h .given .room; fewer = h .since .fewer; long = h .since .long }; ring = h .given .ring; kept = h .since .kept; names = h .since .names }));
     }
 
-pub insert-turn : {F Cs Ws C W C₁ W₁ : List ℕ} {top g q : ℕ} {v y z : Val} {m n n₁ : Meter} {r : Ended} → 0 < q → Inserting F Cs Ws top g v m C W q y n → Folded F C W top g v (q - 1) y n r C₁ W₁ → r ≡ Done z n₁ → length C₁ ≡ length C → length W₁ ≡ length W → Inserting F Cs Ws top g v m C₁ W₁ (q - 1) z n₁
-insert-turn {q = q} {n = n} h b fo e l1 l2 =
+pub insert-turn : {F Cs Ws C W C₁ W₁ : List ℕ} {top g q : ℕ} {v y z : Val} {m n n₁ : Meter} {r : Ended} → 0 < q → Inserting F Cs Ws top g v m C W q y n → Folded F C W top g v (q - 1) y n r C₁ W₁ → r ≡ Done z n₁ → length C₁ ≡ length C → Inserting F Cs Ws top g v m C₁ W₁ (q - 1) z n₁
+insert-turn {q = q} {n = n} h b fo e lc =
     let a = folded-as e fo in
     record {
       sinks = omega (arith, a .falls, b .sinks);
-      longC = l1 ∙ b .longC;
-      longW = l2 ∙ b .longW;
+      longC = lc ∙ b .longC;
       means = λ S k f xs fa gv. let p = b .means S k f xs fa gv in
           let s = gave (a .means S k f xs (p .acc) fa (p .given) (omega (arith, p .low)) (p .rep)) in
           record {

@@ -37,14 +37,12 @@ pub record RepeatNow (F : List ℕ) (S : Setting) (k : ℕ) (Cs Ws : List ℕ) (
 pub record Repeating (F Cs Ws : List ℕ) (top h : ℕ) (v₀ : Val) (m : Meter) (C W : List ℕ) (v : Val) (n : Meter) : Type 0 where
   pub sinks : n .steps ≤ m .steps
   pub longC : length C ≡ length Cs
-  pub longW : length W ≡ length Ws
   pub means : (S : Setting) (k : ℕ) (p f : Form) (x : Obj) → At F S h p → At F S (linkAt F h) f → Given F S k Cs Ws m v₀ x → RepeatNow F S k Cs Ws top m p f (whileBy (by S k) k p f x m) C W v n
 
 pub repeat-start : {F C W : List ℕ} {top h : ℕ} {v : Val} {m : Meter} → Repeating F C W top h v m C W v m
 repeat-start {C = C} {W} {top} {m = m} = record {
   sinks = omega arith;
   longC = refl;
-  longW = refl;
   means = λ S k p f x pa fa g. record { j = k; x = x; given = g; since = since-refl C W top m; low = g .fuel; whole = refl };
 }
 
@@ -101,13 +99,12 @@ module _ {F Cs Ws C W C₁ W₁ C₂ W₂ : List ℕ} {top h g : ℕ} {v₀ v : 
   pub repeat-less : {y₂ : Val} {n₂ : Meter} → r₂ ≡ Done y₂ n₂ → n₂ .steps < n .steps
   repeat-less e2 = omega (arith, yes-fell b e, fell-by ap2 e2)
 
-  pub repeat-next : {y₂ : Val} {n₂ : Meter} → r₂ ≡ Done y₂ n₂ → length C₁ ≡ length C → length W₁ ≡ length W → length C₂ ≡ length C₁ → length W₂ ≡ length W₁ → Repeating F Cs Ws top h v₀ m C₂ W₂ y₂ n₂
-  repeat-next {n₂ = n₂} e2 l1 l2 l3 l4 =
+  pub repeat-next : {y₂ : Val} {n₂ : Meter} → r₂ ≡ Done y₂ n₂ → length C₁ ≡ length C → length C₂ ≡ length C₁ → Repeating F Cs Ws top h v₀ m C₂ W₂ y₂ n₂
+  repeat-next {n₂ = n₂} e2 l1 l2 =
       let d = applied-as e2 ap2 in
       record {
         sinks = omega (arith, yes-fell b e, d .falls, c .sinks);
-        longC = l3 ∙ l1 ∙ c .longC;
-        longW = l4 ∙ l2 ∙ c .longW;
+        longC = l2 ∙ l1 ∙ c .longC;
         means = λ S k p f x pa fa gv. let t = c .means S k p f x pa fa gv in
             let u = on-yes S k b e pa (t .given) in
             let w = turned (t .j) k S p f (t .x) n (t .low) (omega (arith, yes-fell b e)) in
@@ -123,5 +120,5 @@ module _ {F Cs Ws C W C₁ W₁ C₂ W₂ : List ℕ} {top h g : ℕ} {v₀ v : 
             };
       }
 
-pub below-turn : {F Cs Ws C W C₁ W₁ : List ℕ} {top h : ℕ} {v₀ v : Val} {m n n₁ : Meter} {r : Asked} (t : ℕ) → Repeating F Cs Ws top h v₀ m C W v n → Questioned F C W top h v n r C₁ W₁ → r ≡ Yes n₁ → 4 * m .steps + 2 ≡ t → 4 * n₁ .steps < t
+pub below-turn : {F Cs Ws C W C₁ W₁ : List ℕ} {top h : ℕ} {v₀ v : Val} {m n n₁ : Meter} {r : Asked} (t : ℕ) → Repeating F Cs Ws top h v₀ m C W v n → Questioned F C W top h v n r C₁ W₁ → r ≡ Yes n₁ → 4 * m .steps + 3 ≡ t → 4 * n₁ .steps + 1 < t
 below-turn t c b e q = omega (arith, yes-fell b e, c .sinks)

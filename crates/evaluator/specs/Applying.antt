@@ -3,9 +3,9 @@ use Prim.Native.Nat.{ℕ, zero, suc, _+_, _-_, _*_, _≤_, _<_, _%_}
 use mathlib.Core.Path.{_≡_}
 use mathlib.Core.List.{List, [], _∷_}
 use mathlib.Core.Option.{Option, some, none}
-use lib.ListN.{length}
+use lib.ListN.{length, getD}
 use Rattle.language.specs.Objects.{Obj, seq, Objs, nil, _::_, lengthOf, truthOf, Truth, isT, isF, neither}
-use Rattle.language.specs.Forms.{Form, construct, Forms, Prog, count, mainForm}
+use Rattle.language.specs.Forms.{Form, construct, Forms, Prog, count, mainForm, select, selectRight}
 use Rattle.language.specs.Bytes.{bytes}
 use Rattle.language.specs.Meanings.{one, pair}
 use Rattle.language.specs.Evaluation.{Out, value, bottom, bind, Apply, apply, lookup, askName, askCells, chainBy, constructBy, gathered, applyAllOn, insertOn, whileBy, decide}
@@ -16,10 +16,12 @@ use Rattle.cells.specs.Cells.{Rep, Same, Room, free}
 use Rattle.cells.specs.Parts.{heldAt, holdAt, onto, Held, nthObj}
 use Rattle.primitives.specs.declared.Ended.{Ended}
 use Rattle.primitives.specs.declared.Ended.the-variants.{Done, Stop}
-use Rattle.primitives.specs.Ends.{Gives}
+use Rattle.primitives.specs.Ends.{Gives, Leaf}
+use Rattle.primitives.specs.Leaves.{Coded}
+use Rattle.tables.specs.Tables.{field}
 use Rattle.evaluator.specs.declared.waiting.Asked.{Asked}
 use Rattle.evaluator.specs.declared.waiting.Asked.the-variants.{Yes, No, Stop as AskStop}
-use Rattle.linker.specs.Linked.{FormAt, PartsAt, UpTo, DefAt, linkAt}
+use Rattle.linker.specs.Linked.{FormAt, PartsAt, UpTo, DefAt, linkAt, constantAt}
 use Rattle.evaluator.specs.Ring.{Finished, Stopped, Ends}
 
 -- a program, the root of each name's body (and one; 0 if undefined), and the cells with its constants
@@ -59,6 +61,14 @@ Falls (Stop n m′) m = Unit {0}
 abbrev pub Sinks : Ended → Meter → Type 0
 Sinks (Done v m′) m = m′ .steps ≤ m .steps
 Sinks (Stop n m′) m = Unit {0}
+
+-- what is done at a form with no parts, by its kind: a word, a selector or a constant; any other kind gives bottom
+pub data Alone (F C : List ℕ) (i : ℕ) (v : Val) (m : Meter) : ℕ → Ended → List ℕ → Type 0 where
+  a-word : {r : Ended} {C′ : List ℕ} → Coded C v m (field F i 2) r C′ → Alone F C i v m 1 r C′
+  a-select : {r : Ended} → Leaf C v m (select (field F i 2)) r C → Alone F C i v m 2 r C
+  a-select-right : {r : Ended} → Leaf C v m (selectRight (field F i 2)) r C → Alone F C i v m 3 r C
+  a-constant : Alone F C i v m 12 (Done (constantAt F i) m) C
+  no-kind : {κ : ℕ} → (κ ≡ 1 → ⊥) → (κ ≡ 2 → ⊥) → (κ ≡ 3 → ⊥) → (κ ≡ 12 → ⊥) → Alone F C i v m κ (Stop 21 m) C
 
 -- one application of the form at i
 pub record Applied (F C W : List ℕ) (top i : ℕ) (v : Val) (m : Meter) (r : Ended) (C′ W′ : List ℕ) : Type 0 where
@@ -141,7 +151,6 @@ PutAt (Stop n m′) W W′ t = Unit {0}
 -- an application whose value then waits at t
 pub record Slotted (F C W : List ℕ) (t i : ℕ) (v : Val) (m : Meter) (r : Ended) (C′ W′ : List ℕ) : Type 0 where
   pub mid : List ℕ
-  pub long : length mid ≡ length W
   pub app : Applied F C W t i v m r C′ mid
   pub put : PutAt r mid W′ t
 
@@ -160,6 +169,10 @@ pub record Judged (v : Val) (r : ℕ) : Type 0 where
   pub is-true : r ≡ 1 → (C : List ℕ) (n : ℕ) (x : Obj) → Rep C n v x → truthOf x ≡ isT
   pub is-false : r ≡ 0 → (C : List ℕ) (n : ℕ) (x : Obj) → Rep C n v x → truthOf x ≡ isF
   pub is-none : (r ≡ 1 → ⊥) → (r ≡ 0 → ⊥) → (C : List ℕ) (n : ℕ) (x : Obj) → Rep C n v x → truthOf x ≡ neither
+
+-- T holds the first 8,192 numbers of F, and 0 past its end
+pub record Copied (F T : List ℕ) : Type 0 where
+  pub same : (j : ℕ) → j < 8192 → getD T j 0 ≡ getD F j 0
 
 -- A whole run: main, whose body's record and one is d, by the definition with the steps as its fuel.
 pub record Ran (F C : List ℕ) (d : ℕ) (v : Val) (m : Meter) (r : Ended) (C′ : List ℕ) : Type 0 where

@@ -1,6 +1,7 @@
 // Applications of linked forms: f holds the forms, c the cells, w the ring of values that wait, of which those from top on
 // are free. Each function calls the others with fewer steps left.
 ghost use Rattle.evaluator.specs.Applying.{Applied, Chained, Slotted, Built, Mapped, Folded, Inserted, Questioned, Repeated, Bound, Chosen, Named};
+use crate::alone::leaf;
 use crate::forms::arity;
 use crate::forms::constant;
 use crate::forms::inner;
@@ -15,14 +16,50 @@ use language::Charge;
 use language::Meter;
 use language::Val;
 use primitives::Ended;
-use primitives::apply_word;
-use primitives::select;
-use primitives::select_right;
 
-// One application of the form at i to v.
-pub fn apply(f: &[u32], c: &mut [u32], w: &mut [u32], top: u32, i: u32, v: Val, m: Meter) -> Ended
+// One application of the form at i to v. A value lent as two numbers and a meter lent as three take less of the stack, and so
+// does an answer that is taken apart at once.
+pub fn apply(
+    f: &[u32; 8192],
+    c: &mut [u32],
+    w: &mut [u32; 16384],
+    top: u32,
+    i: u32,
+    v: Val,
+    m: Meter,
+) -> Ended
     ensures { λ r. ⌜ Applied (now (f .entry)) (now (c .entry)) (now (w .entry)) top i v m r (now (c .exit)) (now (w .exit)) ⌝ }
 {
+    match step(f, c, w, top, i, v.tag, v.word, m.steps, m.names, m.cells) {
+        Ended::Done(y, k) => Ended::Done(y, k),
+        Ended::Stop(a, k) => Ended::Stop(a, k),
+    }
+}
+
+// One application of the form at i, by its kind.
+pub fn step(
+    f: &[u32; 8192],
+    c: &mut [u32],
+    w: &mut [u32; 16384],
+    top: u32,
+    i: u32,
+    tag: u32,
+    word: u64,
+    steps: u32,
+    names: u32,
+    cells: u32,
+) -> Ended
+    ensures { λ r. ⌜ Applied (now (f .entry)) (now (c .entry)) (now (w .entry)) top i (record { tag = tag; word = word }) (record { steps = steps; names = names; cells = cells }) r (now (c .exit)) (now (w .exit)) ⌝ }
+{
+    let v = Val {
+        tag: tag,
+        word: word,
+    };
+    let m = Meter {
+        steps: steps,
+        names: names,
+        cells: cells,
+    };
     let k = match m.charge_step() {
         Charge::Spent(k) => return Ended::Stop(22, k),
         Charge::Granted(k) => k,
@@ -30,9 +67,7 @@ pub fn apply(f: &[u32], c: &mut [u32], w: &mut [u32], top: u32, i: u32, v: Val, 
     let h = inner(i);
     let shape = kind(f, i);
     match shape {
-        1 => apply_word(low(f, i), c, v, k),
-        2 => select(c, low(f, i), v, k),
-        3 => select_right(c, low(f, i), v, k),
+        1 => leaf(f, c, 1, i, v, k),
         4 => name(f, c, w, top, arity(f, i), v, k),
         5 => chain(f, c, w, top, low(f, i), v, k),
         6 => construct(f, c, w, top, h, arity(f, i), v, k),
@@ -40,17 +75,16 @@ pub fn apply(f: &[u32], c: &mut [u32], w: &mut [u32], top: u32, i: u32, v: Val, 
         8 => each(f, c, w, top, h, v, k),
         9 => condition(f, c, w, top, h, v, k),
         10 => repeat(f, c, w, top, h, v, k),
-        12 => Ended::Done(constant(f, i), k),
         16 => bu(f, c, w, top, h, constant(f, i), v, k),
-        _ => Ended::Stop(21, k),
+        _ => leaf(f, c, shape, i, v, k),
     }
 }
 
 // The parts of a chain whose last is at j, the last first.
 pub fn chain(
-    f: &[u32],
+    f: &[u32; 8192],
     c: &mut [u32],
-    w: &mut [u32],
+    w: &mut [u32; 16384],
     top: u32,
     last: u32,
     v: Val,
@@ -75,7 +109,15 @@ pub fn chain(
 }
 
 // One application of the form at i, whose value then waits at top.
-pub fn slot(f: &[u32], c: &mut [u32], w: &mut [u32], top: u32, i: u32, v: Val, m: Meter) -> Ended
+pub fn slot(
+    f: &[u32; 8192],
+    c: &mut [u32],
+    w: &mut [u32; 16384],
+    top: u32,
+    i: u32,
+    v: Val,
+    m: Meter,
+) -> Ended
     ensures { λ r. ⌜ Slotted (now (f .entry)) (now (c .entry)) (now (w .entry)) top i v m r (now (c .exit)) (now (w .exit)) ⌝ }
 {
     match apply(f, c, w, top, i, v, m) {
@@ -89,9 +131,9 @@ pub fn slot(f: &[u32], c: &mut [u32], w: &mut [u32], top: u32, i: u32, v: Val, m
 
 // The many parts of a construction from the one at h on, the first first; then a cell for each.
 pub fn construct(
-    f: &[u32],
+    f: &[u32; 8192],
     c: &mut [u32],
-    w: &mut [u32],
+    w: &mut [u32; 16384],
     top: u32,
     h: u32,
     many: u32,
@@ -116,7 +158,15 @@ pub fn construct(
 }
 
 // The form at g on each place of v, from left to right; then a cell for each.
-pub fn each(f: &[u32], c: &mut [u32], w: &mut [u32], top: u32, g: u32, v: Val, m: Meter) -> Ended
+pub fn each(
+    f: &[u32; 8192],
+    c: &mut [u32],
+    w: &mut [u32; 16384],
+    top: u32,
+    g: u32,
+    v: Val,
+    m: Meter,
+) -> Ended
     ensures { λ r. ⌜ Mapped (now (f .entry)) (now (c .entry)) (now (w .entry)) top g v m r (now (c .exit)) (now (w .exit)) ⌝ }
 {
     if v.tag != 3 {
@@ -141,9 +191,9 @@ pub fn each(f: &[u32], c: &mut [u32], w: &mut [u32], top: u32, g: u32, v: Val, m
 
 // The form at g on the pair of the place q of s and v.
 pub fn fold(
-    f: &[u32],
+    f: &[u32; 8192],
     c: &mut [u32],
-    w: &mut [u32],
+    w: &mut [u32; 16384],
     top: u32,
     g: u32,
     s: Val,
@@ -165,7 +215,15 @@ pub fn fold(
 }
 
 // The form at g between the places of v, from the right.
-pub fn insert(f: &[u32], c: &mut [u32], w: &mut [u32], top: u32, g: u32, v: Val, m: Meter) -> Ended
+pub fn insert(
+    f: &[u32; 8192],
+    c: &mut [u32],
+    w: &mut [u32; 16384],
+    top: u32,
+    g: u32,
+    v: Val,
+    m: Meter,
+) -> Ended
     ensures { λ r. ⌜ Inserted (now (f .entry)) (now (c .entry)) (now (w .entry)) top g v m r (now (c .exit)) (now (w .exit)) ⌝ }
 {
     if v.tag != 3 {
@@ -192,7 +250,15 @@ pub fn insert(f: &[u32], c: &mut [u32], w: &mut [u32], top: u32, g: u32, v: Val,
 }
 
 // The question at h on v, and what its value says.
-pub fn ask(f: &[u32], c: &mut [u32], w: &mut [u32], top: u32, h: u32, v: Val, m: Meter) -> Asked
+pub fn ask(
+    f: &[u32; 8192],
+    c: &mut [u32],
+    w: &mut [u32; 16384],
+    top: u32,
+    h: u32,
+    v: Val,
+    m: Meter,
+) -> Asked
     ensures { λ r. ⌜ Questioned (now (f .entry)) (now (c .entry)) (now (w .entry)) top h v m r (now (c .exit)) (now (w .exit)) ⌝ }
 {
     match apply(f, c, w, top, h, v, m) {
@@ -211,7 +277,15 @@ pub fn ask(f: &[u32], c: &mut [u32], w: &mut [u32], top: u32, h: u32, v: Val, m:
 }
 
 // A while: the form behind the question at h again, as long as the question says T.
-pub fn repeat(f: &[u32], c: &mut [u32], w: &mut [u32], top: u32, h: u32, v: Val, m: Meter) -> Ended
+pub fn repeat(
+    f: &[u32; 8192],
+    c: &mut [u32],
+    w: &mut [u32; 16384],
+    top: u32,
+    h: u32,
+    v: Val,
+    m: Meter,
+) -> Ended
     ensures { λ r. ⌜ Repeated (now (f .entry)) (now (c .entry)) (now (w .entry)) top h v m r (now (c .exit)) (now (w .exit)) ⌝ }
 {
     let g = next(f, h);
@@ -234,9 +308,9 @@ pub fn repeat(f: &[u32], c: &mut [u32], w: &mut [u32], top: u32, h: u32, v: Val,
 
 // The form at g on the pair of the constant a and v.
 pub fn bu(
-    f: &[u32],
+    f: &[u32; 8192],
     c: &mut [u32],
-    w: &mut [u32],
+    w: &mut [u32; 16384],
     top: u32,
     g: u32,
     a: Val,
@@ -257,9 +331,9 @@ pub fn bu(
 
 // A condition: the question at h, then the first form behind it on T, the second on F.
 pub fn condition(
-    f: &[u32],
+    f: &[u32; 8192],
     c: &mut [u32],
-    w: &mut [u32],
+    w: &mut [u32; 16384],
     top: u32,
     h: u32,
     v: Val,
@@ -276,7 +350,15 @@ pub fn condition(
 }
 
 // The body of a name, whose record and one is d, with one more name open; 0 if it is undefined.
-pub fn name(f: &[u32], c: &mut [u32], w: &mut [u32], top: u32, d: u32, v: Val, m: Meter) -> Ended
+pub fn name(
+    f: &[u32; 8192],
+    c: &mut [u32],
+    w: &mut [u32; 16384],
+    top: u32,
+    d: u32,
+    v: Val,
+    m: Meter,
+) -> Ended
     ensures { λ r. ⌜ Named (now (f .entry)) (now (c .entry)) (now (w .entry)) top d v m r (now (c .exit)) (now (w .exit)) ⌝ }
 {
     if d == 0 {

@@ -6,7 +6,7 @@ ghost use Rattle.linker.specs.Linked.{kindAt, linkAt, constantAt};
 use language::Val;
 
 // The kind of the form at i: 12 for all constants, 16 for all of `{f,x}`.
-pub fn kind(f: &[u32], i: u32) -> u32
+pub fn kind(f: &[u32; 8192], i: u32) -> u32
     ensures { λ r. ⌜ r ≡ kindAt (now (f .entry)) i ⌝ }
 {
     let k = tables::at(f, i as usize * 4) % 32;
@@ -20,7 +20,7 @@ pub fn kind(f: &[u32], i: u32) -> u32
 }
 
 // The record of the part to evaluate after the one at i.
-pub fn next(f: &[u32], i: u32) -> u32
+pub fn next(f: &[u32; 8192], i: u32) -> u32
     ensures { λ r. ⌜ r ≡ linkAt (now (f .entry)) i ⌝ }
 {
     tables::at(f, i as usize * 4) / 32
@@ -33,20 +33,20 @@ pub fn inner(i: u32) -> u32
     ((i as u64 + 1) % 4294967296) as u32
 }
 
-pub fn arity(f: &[u32], i: u32) -> u32
+pub fn arity(f: &[u32; 8192], i: u32) -> u32
     ensures { λ r. ⌜ r ≡ field (now (f .entry)) i 1 ⌝ }
 {
     tables::at(f, i as usize * 4 + 1)
 }
 
-pub fn low(f: &[u32], i: u32) -> u32
+pub fn low(f: &[u32; 8192], i: u32) -> u32
     ensures { λ r. ⌜ r ≡ field (now (f .entry)) i 2 ⌝ }
 {
     tables::at(f, i as usize * 4 + 2)
 }
 
 // The constant of the form at i.
-pub fn constant(f: &[u32], i: u32) -> Val
+pub fn constant(f: &[u32; 8192], i: u32) -> Val
     ensures { λ r. ⌜ r ≡ constantAt (now (f .entry)) i ⌝ }
 {
     let lo = tables::at(f, i as usize * 4 + 2) as u64;

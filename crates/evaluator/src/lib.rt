@@ -1,4 +1,5 @@
 // Evaluation of linked forms on cells, by the definition of the metered run.
+pub mod alone;
 pub mod cycle;
 pub mod forms;
 pub mod run;

@@ -1,5 +1,7 @@
 // A whole run.
-ghost use Rattle.evaluator.specs.Applying.{Ran};
+ghost use mathlib.Core.Path.{_≡_};
+ghost use lib.ListN.{length};
+ghost use Rattle.evaluator.specs.Applying.{Ran, Copied};
 use crate::cycle::name;
 use language::Charge;
 use language::Meter;
@@ -14,6 +16,34 @@ pub fn evaluate(forms: &[u32], c: &mut [u32], root: u32, v: Val, m: Meter) -> En
         Charge::Spent(k) => return Ended::Stop(22, k),
         Charge::Granted(k) => k,
     };
-    let mut w = [0u32; 16384];
-    name(forms, c, &mut w, 0, root, v, k)
+    let f = copied(forms);
+    let mut w = ring();
+    name(&f, c, &mut w, 0, root, v, k)
+}
+
+// The first 8,192 numbers of the forms; past their end 0.
+fn copied(forms: &[u32]) -> [u32; 8192]
+    ensures { λ r. ⌜ Copied (now (forms .entry)) r ⌝ }
+{
+    let mut f = empty();
+    let mut i: usize = 0;
+    while i < 8192 {
+        f[i] = tables::at(forms, i);
+        i += 1;
+    }
+    f
+}
+
+// A table of 8,192 numbers.
+fn empty() -> [u32; 8192]
+    ensures { λ r. ⌜ length r ≡ 8192 ⌝ }
+{
+    [0; 8192]
+}
+
+// A ring of 4,096 places.
+fn ring() -> [u32; 16384]
+    ensures { λ r. ⌜ length r ≡ 16384 ⌝ }
+{
+    [0; 16384]
 }

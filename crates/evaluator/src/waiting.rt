@@ -22,7 +22,7 @@ pub fn place(top: u32, q: u32) -> u32
 }
 
 // The sequence of the many values that wait from top on, with a cell for each.
-pub fn collect(c: &mut [u32], w: &[u32], top: u32, many: u32, m: Meter) -> Ended
+pub fn collect(c: &mut [u32], w: &[u32; 16384], top: u32, many: u32, m: Meter) -> Ended
     ensures { λ r. ⌜ Collected (now (c .entry)) (now (w .entry)) top many m r (now (c .exit)) ⌝ }
 {
     let p = cells::free_cell(c, m);

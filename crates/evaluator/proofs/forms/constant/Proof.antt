@@ -49,14 +49,14 @@ at-requires-3 : tie.Need-at-requires-3
 at-requires-3 c κs = search needs
 
 -- word: lo + 4294967296 * hi,
-mul-t10 : tie.Need-mul-t10
-mul-t10 c = search needs
+mul-t16 : tie.Need-mul-t16
+mul-t16 c = search needs
 
 -- word: lo + 4294967296 * hi,
-add-t11 : tie.Need-add-t11
-add-t11 c = search needs
+add-t17 : tie.Need-add-t17
+add-t17 c = search needs
 
--- pub fn constant(f: &[u32], i: u32) -> Val
+-- pub fn constant(f: &[u32; 8192], i: u32) -> Val
 returns : tie.Need-returns
 returns c = search constant-is
 
@@ -74,6 +74,6 @@ constant-spec =
     cast-hi
     mul-at-3
     at-requires-3
-    mul-t10
-    add-t11
+    mul-t16
+    add-t17
     returns)

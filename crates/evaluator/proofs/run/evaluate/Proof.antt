@@ -1,5 +1,4 @@
--- `evaluate` meets its contract: what `name` ensures, with 4,096 places to wait in.
-use lib.ListN.{length-replicate}
+-- `evaluate` meets its contract: what `name` ensures over the copied forms, with 4,096 places to wait in.
 use Rattle.evaluator.proofs.Applies.{ran-spent, ran}
 use native.Mathlib.Omega.{arith}
 use borrow.Author.Needs.{needs}
@@ -8,6 +7,8 @@ use Rattle.evaluator.proofs.run.evaluate.Tie as tie
 use Rattle.evaluator.proofs.run.evaluate.Reads as reads
 use Rattle.evaluator.proofs.run.evaluate.Lts as lts
 use Rattle.evaluator.proofs.cycle.name.Reads as name-reads
+use Rattle.evaluator.proofs.run.copied.Reads as copied-reads
+use Rattle.evaluator.proofs.run.ring.Reads as ring-reads
 use Rattle.language.proofs.Meter.charge_step.Reads as charge-step-reads
 
 -- let k = match m.charge_step() {
@@ -26,11 +27,15 @@ returns c = search ran-spent
 enum-known-k-2 : tie.Need-enum-known-k-2
 enum-known-k-2 c = search needs
 
--- name(forms, c, &mut w, 0, root, v, k)
-slice-aggregate-name : tie.Need-slice-aggregate-name
-slice-aggregate-name c = search needs
+-- let f = copied(forms);
+copied-requires : tie.Need-copied-requires
+copied-requires c κs = search needs
 
--- name(forms, c, &mut w, 0, root, v, k)
+-- let mut w = ring();
+ring-requires : tie.Need-ring-requires
+ring-requires c κs = search needs
+
+-- name(&f, c, &mut w, 0, root, v, k)
 name-requires : tie.Need-name-requires
 name-requires c κs = search needs
 
@@ -50,7 +55,8 @@ evaluate-spec =
     enum-known-k
     returns
     enum-known-k-2
-    slice-aggregate-name
+    copied-requires
+    ring-requires
     name-requires
     same-length
     returns-2)

@@ -1,53 +1,56 @@
 -- The cycle of applications meets its contracts: one law for each return and each turn of a loop.
-use borrow.Author.Needs.{needs}
-use native.Mathlib.Omega.{arith}
-use Prim.Native.Nat.{ℕ, _<_}
 use Prim.Native.Nat.{_+_, _*_, _-_, _≤_}
 use mathlib.Core.Path.{_∙_}
-use Rattle.evaluator.proofs.Steps.{below-step, below-open, below-taken, below-applied, fell-by}
+use Rattle.evaluator.proofs.Steps.{below-step, applied-as, below-open, below-taken, below-applied, fell-by}
 use Rattle.evaluator.proofs.Chains.{Chaining, chain-start, chain-next, chain-stop, chain-end, ask-stop, ask-yes, ask-no, ask-none, below-yes, below-no, cond-stop, cond-true, cond-false, name-none, name-full, name-stop, name-done}
 use Rattle.evaluator.proofs.Builds.{slot-done, slot-stop, slot-fell, Building, build-start, build-turn, build-halt, build-done, Mapping, map-atom, map-start, map-turn, map-halt, map-done}
 use Rattle.evaluator.proofs.Repeats.{Repeating, repeat-start, repeat-stop, repeat-done, repeat-stop-2, repeat-less, repeat-next, below-turn}
 use Rattle.evaluator.proofs.Pairs.{bu-full, bu-done, fold-full, fold-done, fold-fell, Inserting, insert-atom, insert-none, insert-start, insert-turn, insert-halt, insert-end}
-use Rattle.evaluator.proofs.Applies.{applied, apply-spent, apply-other, on-word, on-select, on-select-right, on-name, on-chain, on-construct, on-insert, on-all, on-condition, on-while, on-constant, on-bu}
+use Rattle.evaluator.proofs.Applies.{applied, apply-spent, apply-leaf, on-word, on-name, on-chain, on-construct, on-insert, on-all, on-condition, on-while, on-bu}
+use borrow.Author.Needs.{needs}
+use native.Mathlib.Omega.{arith}
+use Prim.Native.Nat.{ℕ, _<_}
 use borrow.Fn.Kinds.{In}
 use borrow.Fn.PlainCycle.{Measures, is, falls, and}
 use Rattle.evaluator.proofs.cycle.apply.Reads as apply
 use Rattle.evaluator.proofs.cycle.apply.Kinds as apply-kinds
-use Rattle.evaluator.proofs.cycle.+apply+ask+bu+chain+condition+construct+each+fold+insert+name+repeat+slot.Lts-apply as apply-lts
+use Rattle.evaluator.proofs.cycle.+apply+ask+bu+chain+condition+construct+each+fold+insert+name+repeat+slot+step.Lts-apply as apply-lts
 use Rattle.evaluator.proofs.cycle.ask.Reads as ask
 use Rattle.evaluator.proofs.cycle.ask.Kinds as ask-kinds
-use Rattle.evaluator.proofs.cycle.+apply+ask+bu+chain+condition+construct+each+fold+insert+name+repeat+slot.Lts-ask as ask-lts
+use Rattle.evaluator.proofs.cycle.+apply+ask+bu+chain+condition+construct+each+fold+insert+name+repeat+slot+step.Lts-ask as ask-lts
 use Rattle.evaluator.proofs.cycle.bu.Reads as bu
 use Rattle.evaluator.proofs.cycle.bu.Kinds as bu-kinds
-use Rattle.evaluator.proofs.cycle.+apply+ask+bu+chain+condition+construct+each+fold+insert+name+repeat+slot.Lts-bu as bu-lts
+use Rattle.evaluator.proofs.cycle.+apply+ask+bu+chain+condition+construct+each+fold+insert+name+repeat+slot+step.Lts-bu as bu-lts
 use Rattle.evaluator.proofs.cycle.chain.Reads as chain
 use Rattle.evaluator.proofs.cycle.chain.Kinds as chain-kinds
-use Rattle.evaluator.proofs.cycle.+apply+ask+bu+chain+condition+construct+each+fold+insert+name+repeat+slot.Lts-chain as chain-lts
+use Rattle.evaluator.proofs.cycle.+apply+ask+bu+chain+condition+construct+each+fold+insert+name+repeat+slot+step.Lts-chain as chain-lts
 use Rattle.evaluator.proofs.cycle.condition.Reads as condition
 use Rattle.evaluator.proofs.cycle.condition.Kinds as condition-kinds
-use Rattle.evaluator.proofs.cycle.+apply+ask+bu+chain+condition+construct+each+fold+insert+name+repeat+slot.Lts-condition as condition-lts
+use Rattle.evaluator.proofs.cycle.+apply+ask+bu+chain+condition+construct+each+fold+insert+name+repeat+slot+step.Lts-condition as condition-lts
 use Rattle.evaluator.proofs.cycle.construct.Reads as construct
 use Rattle.evaluator.proofs.cycle.construct.Kinds as construct-kinds
-use Rattle.evaluator.proofs.cycle.+apply+ask+bu+chain+condition+construct+each+fold+insert+name+repeat+slot.Lts-construct as construct-lts
+use Rattle.evaluator.proofs.cycle.+apply+ask+bu+chain+condition+construct+each+fold+insert+name+repeat+slot+step.Lts-construct as construct-lts
 use Rattle.evaluator.proofs.cycle.each.Reads as each
 use Rattle.evaluator.proofs.cycle.each.Kinds as each-kinds
-use Rattle.evaluator.proofs.cycle.+apply+ask+bu+chain+condition+construct+each+fold+insert+name+repeat+slot.Lts-each as each-lts
+use Rattle.evaluator.proofs.cycle.+apply+ask+bu+chain+condition+construct+each+fold+insert+name+repeat+slot+step.Lts-each as each-lts
 use Rattle.evaluator.proofs.cycle.fold.Reads as fold
 use Rattle.evaluator.proofs.cycle.fold.Kinds as fold-kinds
-use Rattle.evaluator.proofs.cycle.+apply+ask+bu+chain+condition+construct+each+fold+insert+name+repeat+slot.Lts-fold as fold-lts
+use Rattle.evaluator.proofs.cycle.+apply+ask+bu+chain+condition+construct+each+fold+insert+name+repeat+slot+step.Lts-fold as fold-lts
 use Rattle.evaluator.proofs.cycle.insert.Reads as insert
 use Rattle.evaluator.proofs.cycle.insert.Kinds as insert-kinds
-use Rattle.evaluator.proofs.cycle.+apply+ask+bu+chain+condition+construct+each+fold+insert+name+repeat+slot.Lts-insert as insert-lts
+use Rattle.evaluator.proofs.cycle.+apply+ask+bu+chain+condition+construct+each+fold+insert+name+repeat+slot+step.Lts-insert as insert-lts
 use Rattle.evaluator.proofs.cycle.name.Reads as name
 use Rattle.evaluator.proofs.cycle.name.Kinds as name-kinds
-use Rattle.evaluator.proofs.cycle.+apply+ask+bu+chain+condition+construct+each+fold+insert+name+repeat+slot.Lts-name as name-lts
+use Rattle.evaluator.proofs.cycle.+apply+ask+bu+chain+condition+construct+each+fold+insert+name+repeat+slot+step.Lts-name as name-lts
 use Rattle.evaluator.proofs.cycle.repeat.Reads as repeat
 use Rattle.evaluator.proofs.cycle.repeat.Kinds as repeat-kinds
-use Rattle.evaluator.proofs.cycle.+apply+ask+bu+chain+condition+construct+each+fold+insert+name+repeat+slot.Lts-repeat as repeat-lts
+use Rattle.evaluator.proofs.cycle.+apply+ask+bu+chain+condition+construct+each+fold+insert+name+repeat+slot+step.Lts-repeat as repeat-lts
 use Rattle.evaluator.proofs.cycle.slot.Reads as slot
 use Rattle.evaluator.proofs.cycle.slot.Kinds as slot-kinds
-use Rattle.evaluator.proofs.cycle.+apply+ask+bu+chain+condition+construct+each+fold+insert+name+repeat+slot.Lts-slot as slot-lts
+use Rattle.evaluator.proofs.cycle.+apply+ask+bu+chain+condition+construct+each+fold+insert+name+repeat+slot+step.Lts-slot as slot-lts
+use Rattle.evaluator.proofs.cycle.step.Reads as step
+use Rattle.evaluator.proofs.cycle.step.Kinds as step-kinds
+use Rattle.evaluator.proofs.cycle.+apply+ask+bu+chain+condition+construct+each+fold+insert+name+repeat+slot+step.Lts-step as step-lts
 use Rattle.cells.proofs.free_cell.Reads as free-cell-reads
 use Rattle.cells.proofs.head.Reads as head-reads
 use Rattle.cells.proofs.hold.Reads as hold-reads
@@ -55,6 +58,7 @@ use Rattle.cells.proofs.nth.Reads as nth-reads
 use Rattle.cells.proofs.pair.Reads as pair-reads
 use Rattle.cells.proofs.size.Reads as size-reads
 use Rattle.cells.proofs.tail.Reads as tail-reads
+use Rattle.evaluator.proofs.alone.leaf.Reads as leaf-reads
 use Rattle.evaluator.proofs.forms.arity.Reads as arity-reads
 use Rattle.evaluator.proofs.forms.constant.Reads as constant-reads
 use Rattle.evaluator.proofs.forms.inner.Reads as inner-reads
@@ -64,55 +68,55 @@ use Rattle.evaluator.proofs.forms.next.Reads as next-reads
 use Rattle.evaluator.proofs.waiting.collect.Reads as collect-reads
 use Rattle.evaluator.proofs.waiting.place.Reads as place-reads
 use Rattle.evaluator.proofs.waiting.verdict.Reads as verdict-reads
-use Rattle.primitives.proofs.apply_word.Reads as apply-word-reads
-use Rattle.primitives.proofs.select.Reads as select-reads
-use Rattle.primitives.proofs.select_right.Reads as select-right-reads
 use Rattle.language.proofs.Meter.charge_cells.Reads as charge-cells-reads
 use Rattle.language.proofs.Meter.charge_step.Reads as charge-step-reads
 use Rattle.language.proofs.Meter.close_name.Reads as close-name-reads
 use Rattle.language.proofs.Meter.open_name.Reads as open-name-reads
-use Rattle.evaluator.proofs.cycle.+apply+ask+bu+chain+condition+construct+each+fold+insert+name+repeat+slot.{
+use Rattle.evaluator.proofs.cycle.+apply+ask+bu+chain+condition+construct+each+fold+insert+name+repeat+slot+step.{
   statement,
 }
-use Rattle.evaluator.proofs.cycle.+apply+ask+bu+chain+condition+construct+each+fold+insert+name+repeat+slot.Tie.{
+use Rattle.evaluator.proofs.cycle.+apply+ask+bu+chain+condition+construct+each+fold+insert+name+repeat+slot+step.Tie.{
   close,
 }
 
 abbrev μ-apply : Measures 3 apply-kinds.ps ℕ
-μ-apply κs a = 4 * a .1 .1 .1 .1 .1 .1 .0 .steps
+μ-apply κs a = 4 * a .1 .1 .1 .1 .1 .1 .0 .steps + 1
 
 abbrev μ-ask : Measures 3 ask-kinds.ps ℕ
-μ-ask κs a = 4 * a .1 .1 .1 .1 .1 .1 .0 .steps + 1
+μ-ask κs a = 4 * a .1 .1 .1 .1 .1 .1 .0 .steps + 2
 
 abbrev μ-bu : Measures 3 bu-kinds.ps ℕ
-μ-bu κs a = 4 * a .1 .1 .1 .1 .1 .1 .1 .0 .steps + 2
+μ-bu κs a = 4 * a .1 .1 .1 .1 .1 .1 .1 .0 .steps + 3
 
 abbrev μ-chain : Measures 3 chain-kinds.ps ℕ
-μ-chain κs a = 4 * a .1 .1 .1 .1 .1 .1 .0 .steps + 2
+μ-chain κs a = 4 * a .1 .1 .1 .1 .1 .1 .0 .steps + 3
 
 abbrev μ-condition : Measures 3 condition-kinds.ps ℕ
-μ-condition κs a = 4 * a .1 .1 .1 .1 .1 .1 .0 .steps + 2
+μ-condition κs a = 4 * a .1 .1 .1 .1 .1 .1 .0 .steps + 3
 
 abbrev μ-construct : Measures 3 construct-kinds.ps ℕ
-μ-construct κs a = 4 * a .1 .1 .1 .1 .1 .1 .1 .0 .steps + 2
+μ-construct κs a = 4 * a .1 .1 .1 .1 .1 .1 .1 .0 .steps + 3
 
 abbrev μ-each : Measures 3 each-kinds.ps ℕ
-μ-each κs a = 4 * a .1 .1 .1 .1 .1 .1 .0 .steps + 2
+μ-each κs a = 4 * a .1 .1 .1 .1 .1 .1 .0 .steps + 3
 
 abbrev μ-fold : Measures 3 fold-kinds.ps ℕ
-μ-fold κs a = 4 * a .1 .1 .1 .1 .1 .1 .1 .1 .0 .steps + 1
+μ-fold κs a = 4 * a .1 .1 .1 .1 .1 .1 .1 .1 .0 .steps + 2
 
 abbrev μ-insert : Measures 3 insert-kinds.ps ℕ
-μ-insert κs a = 4 * a .1 .1 .1 .1 .1 .1 .0 .steps + 2
+μ-insert κs a = 4 * a .1 .1 .1 .1 .1 .1 .0 .steps + 3
 
 abbrev μ-name : Measures 3 name-kinds.ps ℕ
-μ-name κs a = 4 * a .1 .1 .1 .1 .1 .1 .0 .steps + 2
+μ-name κs a = 4 * a .1 .1 .1 .1 .1 .1 .0 .steps + 3
 
 abbrev μ-repeat : Measures 3 repeat-kinds.ps ℕ
-μ-repeat κs a = 4 * a .1 .1 .1 .1 .1 .1 .0 .steps + 2
+μ-repeat κs a = 4 * a .1 .1 .1 .1 .1 .1 .0 .steps + 3
 
 abbrev μ-slot : Measures 3 slot-kinds.ps ℕ
-μ-slot κs a = 4 * a .1 .1 .1 .1 .1 .1 .0 .steps + 1
+μ-slot κs a = 4 * a .1 .1 .1 .1 .1 .1 .0 .steps + 2
+
+abbrev μ-step : Measures 3 step-kinds.ps ℕ
+μ-step κs a = 4 * a .1 .1 .1 .1 .1 .1 .1 .0
 
 abbrev apply-at : ℕ → In 3 apply-kinds.ps
 apply-at t = and 3 apply-kinds.ps (is 3 apply-kinds.ps μ-apply t) apply.Pre
@@ -188,8 +192,14 @@ slot-at t = and 3 slot-kinds.ps (is 3 slot-kinds.ps μ-slot t) slot.Pre
 abbrev slot-below : ℕ → In 3 slot-kinds.ps
 slot-below t = and 3 slot-kinds.ps (falls 3 slot-kinds.ps _<_ μ-slot t) slot.Pre
 
+abbrev step-at : ℕ → In 3 step-kinds.ps
+step-at t = and 3 step-kinds.ps (is 3 step-kinds.ps μ-step t) step.Pre
+
+abbrev step-below : ℕ → In 3 step-kinds.ps
+step-below t = and 3 step-kinds.ps (falls 3 step-kinds.ps _<_ μ-step t) step.Pre
+
 abbrev apply-calls : ℕ → apply-lts.Claims
-apply-calls t = (charge-step-reads.Asked, charge-step-reads.Learnt, inner-reads.Asked, inner-reads.Learnt, kind-reads.Asked, kind-reads.Learnt, low-reads.Asked, low-reads.Learnt, apply-word-reads.Asked, apply-word-reads.Learnt, select-reads.Asked, select-reads.Learnt, select-right-reads.Asked, select-right-reads.Learnt, arity-reads.Asked, arity-reads.Learnt, name-below t, name.Post, chain-below t, chain.Post, construct-below t, construct.Post, insert-below t, insert.Post, each-below t, each.Post, condition-below t, condition.Post, repeat-below t, repeat.Post, constant-reads.Asked, constant-reads.Learnt, bu-below t, bu.Post)
+apply-calls t = (step-below t, step.Post)
 
 abbrev ask-calls : ℕ → ask-lts.Claims
 ask-calls t = (apply-below t, apply.Post, verdict-reads.Asked, verdict-reads.Learnt)
@@ -224,233 +234,36 @@ repeat-calls t = (next-reads.Asked, next-reads.Learnt, ask-below t, ask.Post, ap
 abbrev slot-calls : ℕ → slot-lts.Claims
 slot-calls t = (apply-below t, apply.Post, hold-reads.Asked, hold-reads.Learnt)
 
--- let k = match m.charge_step() {
-apply-charge-step-requires : (t : ℕ) → apply-lts.Need-charge-step-requires (apply-calls t) (apply-at t) apply.Post
-apply-charge-step-requires t c κs = search needs
+abbrev step-calls : ℕ → step-lts.Claims
+step-calls t = (charge-step-reads.Asked, charge-step-reads.Learnt, inner-reads.Asked, inner-reads.Learnt, kind-reads.Asked, kind-reads.Learnt, leaf-reads.Asked, leaf-reads.Learnt, arity-reads.Asked, arity-reads.Learnt, name-below t, name.Post, low-reads.Asked, low-reads.Learnt, chain-below t, chain.Post, construct-below t, construct.Post, insert-below t, insert.Post, each-below t, each.Post, condition-below t, condition.Post, repeat-below t, repeat.Post, constant-reads.Asked, constant-reads.Learnt, bu-below t, bu.Post)
 
--- Charge::Spent(k) => return Ended::Stop(22, k),
-apply-enum-known-k : (t : ℕ) → apply-lts.Need-enum-known-k (apply-calls t) (apply-at t) apply.Post
-apply-enum-known-k t c = search needs
+-- match step(f, c, w, top, i, v.tag, v.word, m.steps, m.names, m.cells) {
+apply-step-requires : (t : ℕ) → apply-lts.Need-step-requires (apply-calls t) (apply-at t) apply.Post
+apply-step-requires t c κs = search needs
 
--- Charge::Spent(k) => return Ended::Stop(22, k),
-apply-returns : (t : ℕ) → apply-lts.Need-returns (apply-calls t) (apply-at t) apply.Post
-apply-returns t c = search apply-spent
+-- Ended::Done(y, k) => Ended::Done(y, k),
+apply-enum-known-y : (t : ℕ) → apply-lts.Need-enum-known-y (apply-calls t) (apply-at t) apply.Post
+apply-enum-known-y t c = search needs
 
--- Charge::Granted(k) => k,
-apply-enum-known-k-2 : (t : ℕ) → apply-lts.Need-enum-known-k-2 (apply-calls t) (apply-at t) apply.Post
-apply-enum-known-k-2 t c = search needs
+-- Ended::Stop(a, k) => Ended::Stop(a, k),
+apply-enum-known-a : (t : ℕ) → apply-lts.Need-enum-known-a (apply-calls t) (apply-at t) apply.Post
+apply-enum-known-a t c = search needs
 
--- let h = inner(i);
-apply-inner-requires : (t : ℕ) → apply-lts.Need-inner-requires (apply-calls t) (apply-at t) apply.Post
-apply-inner-requires t c κs = search needs
-
--- let shape = kind(f, i);
-apply-kind-requires : (t : ℕ) → apply-lts.Need-kind-requires (apply-calls t) (apply-at t) apply.Post
-apply-kind-requires t c κs = search needs
-
--- 1 => apply_word(c, low(f, i), v, k),
-apply-low-requires : (t : ℕ) → apply-lts.Need-low-requires (apply-calls t) (apply-at t) apply.Post
-apply-low-requires t c κs = search needs
-
--- 1 => apply_word(c, low(f, i), v, k),
-apply-apply-word-requires : (t : ℕ) → apply-lts.Need-apply-word-requires (apply-calls t) (apply-at t) apply.Post
-apply-apply-word-requires t c κs = search needs
-
--- 2 => select(c, low(f, i), v, k),
-apply-low-requires-2 : (t : ℕ) → apply-lts.Need-low-requires-2 (apply-calls t) (apply-at t) apply.Post
-apply-low-requires-2 t c κs = search needs
-
--- 2 => select(c, low(f, i), v, k),
-apply-select-requires : (t : ℕ) → apply-lts.Need-select-requires (apply-calls t) (apply-at t) apply.Post
-apply-select-requires t c κs = search needs
-
--- 3 => select_right(c, low(f, i), v, k),
-apply-low-requires-3 : (t : ℕ) → apply-lts.Need-low-requires-3 (apply-calls t) (apply-at t) apply.Post
-apply-low-requires-3 t c κs = search needs
-
--- 3 => select_right(c, low(f, i), v, k),
-apply-select-right-requires : (t : ℕ) → apply-lts.Need-select-right-requires (apply-calls t) (apply-at t) apply.Post
-apply-select-right-requires t c κs = search needs
-
--- 4 => name(f, c, w, top, arity(f, i), v, k),
-apply-arity-requires : (t : ℕ) → apply-lts.Need-arity-requires (apply-calls t) (apply-at t) apply.Post
-apply-arity-requires t c κs = search needs
-
--- 4 => name(f, c, w, top, arity(f, i), v, k),
-apply-name-requires : (t : ℕ) → apply-lts.Need-name-requires (apply-calls t) (apply-at t) apply.Post
-apply-name-requires t c κs = search (below-step, needs)
-
--- 5 => chain(f, c, w, top, low(f, i), v, k),
-apply-low-requires-4 : (t : ℕ) → apply-lts.Need-low-requires-4 (apply-calls t) (apply-at t) apply.Post
-apply-low-requires-4 t c κs = search needs
-
--- 5 => chain(f, c, w, top, low(f, i), v, k),
-apply-chain-requires : (t : ℕ) → apply-lts.Need-chain-requires (apply-calls t) (apply-at t) apply.Post
-apply-chain-requires t c κs = search (below-step, needs)
-
--- 6 => construct(f, c, w, top, h, arity(f, i), v, k),
-apply-arity-requires-2 : (t : ℕ) → apply-lts.Need-arity-requires-2 (apply-calls t) (apply-at t) apply.Post
-apply-arity-requires-2 t c κs = search needs
-
--- 6 => construct(f, c, w, top, h, arity(f, i), v, k),
-apply-construct-requires : (t : ℕ) → apply-lts.Need-construct-requires (apply-calls t) (apply-at t) apply.Post
-apply-construct-requires t c κs = search (below-step, needs)
-
--- 7 => insert(f, c, w, top, h, v, k),
-apply-insert-requires : (t : ℕ) → apply-lts.Need-insert-requires (apply-calls t) (apply-at t) apply.Post
-apply-insert-requires t c κs = search (below-step, needs)
-
--- 8 => each(f, c, w, top, h, v, k),
-apply-each-requires : (t : ℕ) → apply-lts.Need-each-requires (apply-calls t) (apply-at t) apply.Post
-apply-each-requires t c κs = search (below-step, needs)
-
--- 9 => condition(f, c, w, top, h, v, k),
-apply-condition-requires : (t : ℕ) → apply-lts.Need-condition-requires (apply-calls t) (apply-at t) apply.Post
-apply-condition-requires t c κs = search (below-step, needs)
-
--- 10 => repeat(f, c, w, top, h, v, k),
-apply-repeat-requires : (t : ℕ) → apply-lts.Need-repeat-requires (apply-calls t) (apply-at t) apply.Post
-apply-repeat-requires t c κs = search (below-step, needs)
-
--- 12 => Ended::Done(constant(f, i), k),
-apply-constant-requires : (t : ℕ) → apply-lts.Need-constant-requires (apply-calls t) (apply-at t) apply.Post
-apply-constant-requires t c κs = search needs
-
--- 16 => bu(f, c, w, top, h, constant(f, i), v, k),
-apply-constant-requires-2 : (t : ℕ) → apply-lts.Need-constant-requires-2 (apply-calls t) (apply-at t) apply.Post
-apply-constant-requires-2 t c κs = search needs
-
--- 16 => bu(f, c, w, top, h, constant(f, i), v, k),
-apply-bu-requires : (t : ℕ) → apply-lts.Need-bu-requires (apply-calls t) (apply-at t) apply.Post
-apply-bu-requires t c κs = search (below-step, needs)
-
--- pub fn apply(f: &[u32], c: &mut [u32], w: &mut [u32], top: u32, i: u32, v: Val, m: Meter) -> Ended
+-- pub fn apply(f: &[u32; 8192], c: &mut [u32], w: &mut [u32; 16384], top: u32, i: u32, v: Val, m: Meter) -> Ended
 apply-same-length : (t : ℕ) → apply-lts.Need-same-length (apply-calls t) (apply-at t) apply.Post
 apply-same-length t c = search needs
 
--- pub fn apply(f: &[u32], c: &mut [u32], w: &mut [u32], top: u32, i: u32, v: Val, m: Meter) -> Ended
-apply-returns-2 : (t : ℕ) → apply-lts.Need-returns-2 (apply-calls t) (apply-at t) apply.Post
-apply-returns-2 t c = search (applied, on-word)
+-- pub fn apply(f: &[u32; 8192], c: &mut [u32], w: &mut [u32; 16384], top: u32, i: u32, v: Val, m: Meter) -> Ended
+apply-returns : (t : ℕ) → apply-lts.Need-returns (apply-calls t) (apply-at t) apply.Post
+apply-returns t c = search applied-as
 
--- pub fn apply(f: &[u32], c: &mut [u32], w: &mut [u32], top: u32, i: u32, v: Val, m: Meter) -> Ended
+-- pub fn apply(f: &[u32; 8192], c: &mut [u32], w: &mut [u32; 16384], top: u32, i: u32, v: Val, m: Meter) -> Ended
 apply-same-length-2 : (t : ℕ) → apply-lts.Need-same-length-2 (apply-calls t) (apply-at t) apply.Post
 apply-same-length-2 t c = search needs
 
--- pub fn apply(f: &[u32], c: &mut [u32], w: &mut [u32], top: u32, i: u32, v: Val, m: Meter) -> Ended
-apply-returns-3 : (t : ℕ) → apply-lts.Need-returns-3 (apply-calls t) (apply-at t) apply.Post
-apply-returns-3 t c = search (applied, on-select)
-
--- pub fn apply(f: &[u32], c: &mut [u32], w: &mut [u32], top: u32, i: u32, v: Val, m: Meter) -> Ended
-apply-same-length-3 : (t : ℕ) → apply-lts.Need-same-length-3 (apply-calls t) (apply-at t) apply.Post
-apply-same-length-3 t c = search needs
-
--- pub fn apply(f: &[u32], c: &mut [u32], w: &mut [u32], top: u32, i: u32, v: Val, m: Meter) -> Ended
-apply-returns-4 : (t : ℕ) → apply-lts.Need-returns-4 (apply-calls t) (apply-at t) apply.Post
-apply-returns-4 t c = search (applied, on-select-right)
-
--- pub fn apply(f: &[u32], c: &mut [u32], w: &mut [u32], top: u32, i: u32, v: Val, m: Meter) -> Ended
-apply-same-length-4 : (t : ℕ) → apply-lts.Need-same-length-4 (apply-calls t) (apply-at t) apply.Post
-apply-same-length-4 t c = search needs
-
--- pub fn apply(f: &[u32], c: &mut [u32], w: &mut [u32], top: u32, i: u32, v: Val, m: Meter) -> Ended
-apply-same-length-5 : (t : ℕ) → apply-lts.Need-same-length-5 (apply-calls t) (apply-at t) apply.Post
-apply-same-length-5 t c = search needs
-
--- pub fn apply(f: &[u32], c: &mut [u32], w: &mut [u32], top: u32, i: u32, v: Val, m: Meter) -> Ended
-apply-returns-5 : (t : ℕ) → apply-lts.Need-returns-5 (apply-calls t) (apply-at t) apply.Post
-apply-returns-5 t c = search (applied, on-name)
-
--- pub fn apply(f: &[u32], c: &mut [u32], w: &mut [u32], top: u32, i: u32, v: Val, m: Meter) -> Ended
-apply-same-length-6 : (t : ℕ) → apply-lts.Need-same-length-6 (apply-calls t) (apply-at t) apply.Post
-apply-same-length-6 t c = search needs
-
--- pub fn apply(f: &[u32], c: &mut [u32], w: &mut [u32], top: u32, i: u32, v: Val, m: Meter) -> Ended
-apply-same-length-7 : (t : ℕ) → apply-lts.Need-same-length-7 (apply-calls t) (apply-at t) apply.Post
-apply-same-length-7 t c = search needs
-
--- pub fn apply(f: &[u32], c: &mut [u32], w: &mut [u32], top: u32, i: u32, v: Val, m: Meter) -> Ended
-apply-returns-6 : (t : ℕ) → apply-lts.Need-returns-6 (apply-calls t) (apply-at t) apply.Post
-apply-returns-6 t c = search (applied, on-chain)
-
--- pub fn apply(f: &[u32], c: &mut [u32], w: &mut [u32], top: u32, i: u32, v: Val, m: Meter) -> Ended
-apply-same-length-8 : (t : ℕ) → apply-lts.Need-same-length-8 (apply-calls t) (apply-at t) apply.Post
-apply-same-length-8 t c = search needs
-
--- pub fn apply(f: &[u32], c: &mut [u32], w: &mut [u32], top: u32, i: u32, v: Val, m: Meter) -> Ended
-apply-same-length-9 : (t : ℕ) → apply-lts.Need-same-length-9 (apply-calls t) (apply-at t) apply.Post
-apply-same-length-9 t c = search needs
-
--- pub fn apply(f: &[u32], c: &mut [u32], w: &mut [u32], top: u32, i: u32, v: Val, m: Meter) -> Ended
-apply-returns-7 : (t : ℕ) → apply-lts.Need-returns-7 (apply-calls t) (apply-at t) apply.Post
-apply-returns-7 t c = search (applied, on-construct)
-
--- pub fn apply(f: &[u32], c: &mut [u32], w: &mut [u32], top: u32, i: u32, v: Val, m: Meter) -> Ended
-apply-same-length-10 : (t : ℕ) → apply-lts.Need-same-length-10 (apply-calls t) (apply-at t) apply.Post
-apply-same-length-10 t c = search needs
-
--- pub fn apply(f: &[u32], c: &mut [u32], w: &mut [u32], top: u32, i: u32, v: Val, m: Meter) -> Ended
-apply-same-length-11 : (t : ℕ) → apply-lts.Need-same-length-11 (apply-calls t) (apply-at t) apply.Post
-apply-same-length-11 t c = search needs
-
--- pub fn apply(f: &[u32], c: &mut [u32], w: &mut [u32], top: u32, i: u32, v: Val, m: Meter) -> Ended
-apply-returns-8 : (t : ℕ) → apply-lts.Need-returns-8 (apply-calls t) (apply-at t) apply.Post
-apply-returns-8 t c = search (applied, on-insert)
-
--- pub fn apply(f: &[u32], c: &mut [u32], w: &mut [u32], top: u32, i: u32, v: Val, m: Meter) -> Ended
-apply-same-length-12 : (t : ℕ) → apply-lts.Need-same-length-12 (apply-calls t) (apply-at t) apply.Post
-apply-same-length-12 t c = search needs
-
--- pub fn apply(f: &[u32], c: &mut [u32], w: &mut [u32], top: u32, i: u32, v: Val, m: Meter) -> Ended
-apply-same-length-13 : (t : ℕ) → apply-lts.Need-same-length-13 (apply-calls t) (apply-at t) apply.Post
-apply-same-length-13 t c = search needs
-
--- pub fn apply(f: &[u32], c: &mut [u32], w: &mut [u32], top: u32, i: u32, v: Val, m: Meter) -> Ended
-apply-returns-9 : (t : ℕ) → apply-lts.Need-returns-9 (apply-calls t) (apply-at t) apply.Post
-apply-returns-9 t c = search (applied, on-all)
-
--- pub fn apply(f: &[u32], c: &mut [u32], w: &mut [u32], top: u32, i: u32, v: Val, m: Meter) -> Ended
-apply-same-length-14 : (t : ℕ) → apply-lts.Need-same-length-14 (apply-calls t) (apply-at t) apply.Post
-apply-same-length-14 t c = search needs
-
--- pub fn apply(f: &[u32], c: &mut [u32], w: &mut [u32], top: u32, i: u32, v: Val, m: Meter) -> Ended
-apply-same-length-15 : (t : ℕ) → apply-lts.Need-same-length-15 (apply-calls t) (apply-at t) apply.Post
-apply-same-length-15 t c = search needs
-
--- pub fn apply(f: &[u32], c: &mut [u32], w: &mut [u32], top: u32, i: u32, v: Val, m: Meter) -> Ended
-apply-returns-10 : (t : ℕ) → apply-lts.Need-returns-10 (apply-calls t) (apply-at t) apply.Post
-apply-returns-10 t c = search (applied, on-condition)
-
--- pub fn apply(f: &[u32], c: &mut [u32], w: &mut [u32], top: u32, i: u32, v: Val, m: Meter) -> Ended
-apply-same-length-16 : (t : ℕ) → apply-lts.Need-same-length-16 (apply-calls t) (apply-at t) apply.Post
-apply-same-length-16 t c = search needs
-
--- pub fn apply(f: &[u32], c: &mut [u32], w: &mut [u32], top: u32, i: u32, v: Val, m: Meter) -> Ended
-apply-same-length-17 : (t : ℕ) → apply-lts.Need-same-length-17 (apply-calls t) (apply-at t) apply.Post
-apply-same-length-17 t c = search needs
-
--- pub fn apply(f: &[u32], c: &mut [u32], w: &mut [u32], top: u32, i: u32, v: Val, m: Meter) -> Ended
-apply-returns-11 : (t : ℕ) → apply-lts.Need-returns-11 (apply-calls t) (apply-at t) apply.Post
-apply-returns-11 t c = search (applied, on-while)
-
--- pub fn apply(f: &[u32], c: &mut [u32], w: &mut [u32], top: u32, i: u32, v: Val, m: Meter) -> Ended
-apply-returns-12 : (t : ℕ) → apply-lts.Need-returns-12 (apply-calls t) (apply-at t) apply.Post
-apply-returns-12 t c = search (applied, on-constant)
-
--- pub fn apply(f: &[u32], c: &mut [u32], w: &mut [u32], top: u32, i: u32, v: Val, m: Meter) -> Ended
-apply-same-length-18 : (t : ℕ) → apply-lts.Need-same-length-18 (apply-calls t) (apply-at t) apply.Post
-apply-same-length-18 t c = search needs
-
--- pub fn apply(f: &[u32], c: &mut [u32], w: &mut [u32], top: u32, i: u32, v: Val, m: Meter) -> Ended
-apply-same-length-19 : (t : ℕ) → apply-lts.Need-same-length-19 (apply-calls t) (apply-at t) apply.Post
-apply-same-length-19 t c = search needs
-
--- pub fn apply(f: &[u32], c: &mut [u32], w: &mut [u32], top: u32, i: u32, v: Val, m: Meter) -> Ended
-apply-returns-13 : (t : ℕ) → apply-lts.Need-returns-13 (apply-calls t) (apply-at t) apply.Post
-apply-returns-13 t c = search (applied, on-bu)
-
--- pub fn apply(f: &[u32], c: &mut [u32], w: &mut [u32], top: u32, i: u32, v: Val, m: Meter) -> Ended
-apply-returns-14 : (t : ℕ) → apply-lts.Need-returns-14 (apply-calls t) (apply-at t) apply.Post
-apply-returns-14 t c = search apply-other
+-- pub fn apply(f: &[u32; 8192], c: &mut [u32], w: &mut [u32; 16384], top: u32, i: u32, v: Val, m: Meter) -> Ended
+apply-returns-2 : (t : ℕ) → apply-lts.Need-returns-2 (apply-calls t) (apply-at t) apply.Post
+apply-returns-2 t c = search applied-as
 
 -- match apply(f, c, w, top, h, v, m) {
 ask-apply-requires : (t : ℕ) → ask-lts.Need-apply-requires (ask-calls t) (ask-at t) ask.Post
@@ -473,46 +286,30 @@ ask-same-length : (t : ℕ) → ask-lts.Need-same-length (ask-calls t) (ask-at t
 ask-same-length t c = search needs
 
 -- return Asked::Yes(k);
-ask-same-length-2 : (t : ℕ) → ask-lts.Need-same-length-2 (ask-calls t) (ask-at t) ask.Post
-ask-same-length-2 t c = search needs
-
--- return Asked::Yes(k);
 ask-returns : (t : ℕ) → ask-lts.Need-returns (ask-calls t) (ask-at t) ask.Post
 ask-returns t c = search ask-yes
 
 -- return Asked::No(k);
-ask-same-length-3 : (t : ℕ) → ask-lts.Need-same-length-3 (ask-calls t) (ask-at t) ask.Post
-ask-same-length-3 t c = search needs
-
--- return Asked::No(k);
-ask-same-length-4 : (t : ℕ) → ask-lts.Need-same-length-4 (ask-calls t) (ask-at t) ask.Post
-ask-same-length-4 t c = search needs
+ask-same-length-2 : (t : ℕ) → ask-lts.Need-same-length-2 (ask-calls t) (ask-at t) ask.Post
+ask-same-length-2 t c = search needs
 
 -- return Asked::No(k);
 ask-returns-2 : (t : ℕ) → ask-lts.Need-returns-2 (ask-calls t) (ask-at t) ask.Post
 ask-returns-2 t c = search ask-no
 
--- pub fn ask(f: &[u32], c: &mut [u32], w: &mut [u32], top: u32, h: u32, v: Val, m: Meter) -> Asked
-ask-same-length-5 : (t : ℕ) → ask-lts.Need-same-length-5 (ask-calls t) (ask-at t) ask.Post
-ask-same-length-5 t c = search needs
+-- pub fn ask(f: &[u32; 8192], c: &mut [u32], w: &mut [u32; 16384], top: u32, h: u32, v: Val, m: Meter) -> Asked
+ask-same-length-3 : (t : ℕ) → ask-lts.Need-same-length-3 (ask-calls t) (ask-at t) ask.Post
+ask-same-length-3 t c = search needs
 
--- pub fn ask(f: &[u32], c: &mut [u32], w: &mut [u32], top: u32, h: u32, v: Val, m: Meter) -> Asked
-ask-same-length-6 : (t : ℕ) → ask-lts.Need-same-length-6 (ask-calls t) (ask-at t) ask.Post
-ask-same-length-6 t c = search needs
-
--- pub fn ask(f: &[u32], c: &mut [u32], w: &mut [u32], top: u32, h: u32, v: Val, m: Meter) -> Asked
+-- pub fn ask(f: &[u32; 8192], c: &mut [u32], w: &mut [u32; 16384], top: u32, h: u32, v: Val, m: Meter) -> Asked
 ask-returns-3 : (t : ℕ) → ask-lts.Need-returns-3 (ask-calls t) (ask-at t) ask.Post
 ask-returns-3 t c = search ask-stop
 
--- pub fn ask(f: &[u32], c: &mut [u32], w: &mut [u32], top: u32, h: u32, v: Val, m: Meter) -> Asked
-ask-same-length-7 : (t : ℕ) → ask-lts.Need-same-length-7 (ask-calls t) (ask-at t) ask.Post
-ask-same-length-7 t c = search needs
+-- pub fn ask(f: &[u32; 8192], c: &mut [u32], w: &mut [u32; 16384], top: u32, h: u32, v: Val, m: Meter) -> Asked
+ask-same-length-4 : (t : ℕ) → ask-lts.Need-same-length-4 (ask-calls t) (ask-at t) ask.Post
+ask-same-length-4 t c = search needs
 
--- pub fn ask(f: &[u32], c: &mut [u32], w: &mut [u32], top: u32, h: u32, v: Val, m: Meter) -> Asked
-ask-same-length-8 : (t : ℕ) → ask-lts.Need-same-length-8 (ask-calls t) (ask-at t) ask.Post
-ask-same-length-8 t c = search needs
-
--- pub fn ask(f: &[u32], c: &mut [u32], w: &mut [u32], top: u32, h: u32, v: Val, m: Meter) -> Asked
+-- pub fn ask(f: &[u32; 8192], c: &mut [u32], w: &mut [u32; 16384], top: u32, h: u32, v: Val, m: Meter) -> Asked
 ask-returns-4 : (t : ℕ) → ask-lts.Need-returns-4 (ask-calls t) (ask-at t) ask.Post
 ask-returns-4 t c = search ask-none
 
@@ -540,23 +337,19 @@ bu-pair-requires t c κs = search needs
 bu-apply-requires : (t : ℕ) → bu-lts.Need-apply-requires (bu-calls t) (bu-at t) bu.Post
 bu-apply-requires t c κs = search (below-taken, needs)
 
--- pub fn bu(f: &[u32], c: &mut [u32], w: &mut [u32], top: u32, g: u32, a: Val, v: Val, m: Meter) -> Ended
+-- pub fn bu(
 bu-same-length : (t : ℕ) → bu-lts.Need-same-length (bu-calls t) (bu-at t) bu.Post
 bu-same-length t c = search needs
 
--- pub fn bu(f: &[u32], c: &mut [u32], w: &mut [u32], top: u32, g: u32, a: Val, v: Val, m: Meter) -> Ended
+-- pub fn bu(
 bu-returns : (t : ℕ) → bu-lts.Need-returns (bu-calls t) (bu-at t) bu.Post
 bu-returns t c = search bu-full
 
--- pub fn bu(f: &[u32], c: &mut [u32], w: &mut [u32], top: u32, g: u32, a: Val, v: Val, m: Meter) -> Ended
+-- pub fn bu(
 bu-same-length-2 : (t : ℕ) → bu-lts.Need-same-length-2 (bu-calls t) (bu-at t) bu.Post
 bu-same-length-2 t c = search needs
 
--- pub fn bu(f: &[u32], c: &mut [u32], w: &mut [u32], top: u32, g: u32, a: Val, v: Val, m: Meter) -> Ended
-bu-same-length-3 : (t : ℕ) → bu-lts.Need-same-length-3 (bu-calls t) (bu-at t) bu.Post
-bu-same-length-3 t c = search needs
-
--- pub fn bu(f: &[u32], c: &mut [u32], w: &mut [u32], top: u32, g: u32, a: Val, v: Val, m: Meter) -> Ended
+-- pub fn bu(
 bu-returns-2 : (t : ℕ) → bu-lts.Need-returns-2 (bu-calls t) (bu-at t) bu.Post
 bu-returns-2 t c = search bu-done
 
@@ -587,10 +380,6 @@ chain-same-length : (t : ℕ) → chain-lts.Need-same-length (chain-calls t) (ch
 chain-same-length t c = search needs
 
 -- Ended::Stop(a, k) => return Ended::Stop(a, k),
-chain-same-length-2 : (t : ℕ) → chain-lts.Need-same-length-2 (chain-calls t) (chain-at t) chain.Post chain-Inv-loop chain-μ-loop
-chain-same-length-2 t c = search needs
-
--- Ended::Stop(a, k) => return Ended::Stop(a, k),
 chain-returns : (t : ℕ) → chain-lts.Need-returns (chain-calls t) (chain-at t) chain.Post chain-Inv-loop chain-μ-loop
 chain-returns t c = search chain-stop
 
@@ -606,15 +395,11 @@ chain-loop-less t c = search fell-by
 chain-loop-again : (t : ℕ) → chain-lts.Need-loop-again (chain-calls t) (chain-at t) chain.Post chain-Inv-loop chain-μ-loop
 chain-loop-again t c = search chain-next
 
--- pub fn chain(f: &[u32], c: &mut [u32], w: &mut [u32], top: u32, last: u32, v: Val, m: Meter) -> Ended
-chain-same-length-3 : (t : ℕ) → chain-lts.Need-same-length-3 (chain-calls t) (chain-at t) chain.Post chain-Inv-loop chain-μ-loop
-chain-same-length-3 t c = search needs
+-- pub fn chain(
+chain-same-length-2 : (t : ℕ) → chain-lts.Need-same-length-2 (chain-calls t) (chain-at t) chain.Post chain-Inv-loop chain-μ-loop
+chain-same-length-2 t c = search needs
 
--- pub fn chain(f: &[u32], c: &mut [u32], w: &mut [u32], top: u32, last: u32, v: Val, m: Meter) -> Ended
-chain-same-length-4 : (t : ℕ) → chain-lts.Need-same-length-4 (chain-calls t) (chain-at t) chain.Post chain-Inv-loop chain-μ-loop
-chain-same-length-4 t c = search needs
-
--- pub fn chain(f: &[u32], c: &mut [u32], w: &mut [u32], top: u32, last: u32, v: Val, m: Meter) -> Ended
+-- pub fn chain(
 chain-returns-2 : (t : ℕ) → chain-lts.Need-returns-2 (chain-calls t) (chain-at t) chain.Post chain-Inv-loop chain-μ-loop
 chain-returns-2 t c = search chain-end
 
@@ -650,39 +435,27 @@ condition-next-requires-2 t c κs = search needs
 condition-apply-requires-2 : (t : ℕ) → condition-lts.Need-apply-requires-2 (condition-calls t) (condition-at t) condition.Post
 condition-apply-requires-2 t c κs = search (below-no, needs)
 
--- pub fn condition(f: &[u32], c: &mut [u32], w: &mut [u32], top: u32, h: u32, v: Val, m: Meter) -> Ended
+-- pub fn condition(
 condition-same-length : (t : ℕ) → condition-lts.Need-same-length (condition-calls t) (condition-at t) condition.Post
 condition-same-length t c = search needs
 
--- pub fn condition(f: &[u32], c: &mut [u32], w: &mut [u32], top: u32, h: u32, v: Val, m: Meter) -> Ended
-condition-same-length-2 : (t : ℕ) → condition-lts.Need-same-length-2 (condition-calls t) (condition-at t) condition.Post
-condition-same-length-2 t c = search needs
-
--- pub fn condition(f: &[u32], c: &mut [u32], w: &mut [u32], top: u32, h: u32, v: Val, m: Meter) -> Ended
+-- pub fn condition(
 condition-returns : (t : ℕ) → condition-lts.Need-returns (condition-calls t) (condition-at t) condition.Post
 condition-returns t c = search cond-stop
 
--- pub fn condition(f: &[u32], c: &mut [u32], w: &mut [u32], top: u32, h: u32, v: Val, m: Meter) -> Ended
-condition-same-length-3 : (t : ℕ) → condition-lts.Need-same-length-3 (condition-calls t) (condition-at t) condition.Post
-condition-same-length-3 t c = search needs
+-- pub fn condition(
+condition-same-length-2 : (t : ℕ) → condition-lts.Need-same-length-2 (condition-calls t) (condition-at t) condition.Post
+condition-same-length-2 t c = search needs
 
--- pub fn condition(f: &[u32], c: &mut [u32], w: &mut [u32], top: u32, h: u32, v: Val, m: Meter) -> Ended
-condition-same-length-4 : (t : ℕ) → condition-lts.Need-same-length-4 (condition-calls t) (condition-at t) condition.Post
-condition-same-length-4 t c = search needs
-
--- pub fn condition(f: &[u32], c: &mut [u32], w: &mut [u32], top: u32, h: u32, v: Val, m: Meter) -> Ended
+-- pub fn condition(
 condition-returns-2 : (t : ℕ) → condition-lts.Need-returns-2 (condition-calls t) (condition-at t) condition.Post
 condition-returns-2 t c = search cond-true
 
--- pub fn condition(f: &[u32], c: &mut [u32], w: &mut [u32], top: u32, h: u32, v: Val, m: Meter) -> Ended
-condition-same-length-5 : (t : ℕ) → condition-lts.Need-same-length-5 (condition-calls t) (condition-at t) condition.Post
-condition-same-length-5 t c = search needs
+-- pub fn condition(
+condition-same-length-3 : (t : ℕ) → condition-lts.Need-same-length-3 (condition-calls t) (condition-at t) condition.Post
+condition-same-length-3 t c = search needs
 
--- pub fn condition(f: &[u32], c: &mut [u32], w: &mut [u32], top: u32, h: u32, v: Val, m: Meter) -> Ended
-condition-same-length-6 : (t : ℕ) → condition-lts.Need-same-length-6 (condition-calls t) (condition-at t) condition.Post
-condition-same-length-6 t c = search needs
-
--- pub fn condition(f: &[u32], c: &mut [u32], w: &mut [u32], top: u32, h: u32, v: Val, m: Meter) -> Ended
+-- pub fn condition(
 condition-returns-3 : (t : ℕ) → condition-lts.Need-returns-3 (condition-calls t) (condition-at t) condition.Post
 condition-returns-3 t c = search cond-false
 
@@ -717,10 +490,6 @@ construct-same-length : (t : ℕ) → construct-lts.Need-same-length (construct-
 construct-same-length t c = search needs
 
 -- Ended::Stop(a, k) => return Ended::Stop(a, k),
-construct-same-length-2 : (t : ℕ) → construct-lts.Need-same-length-2 (construct-calls t) (construct-at t) construct.Post construct-Inv-loop construct-μ-loop
-construct-same-length-2 t c = search needs
-
--- Ended::Stop(a, k) => return Ended::Stop(a, k),
 construct-returns : (t : ℕ) → construct-lts.Need-returns (construct-calls t) (construct-at t) construct.Post construct-Inv-loop construct-μ-loop
 construct-returns t c = search build-halt
 
@@ -744,15 +513,11 @@ construct-loop-again t c = search build-turn
 construct-collect-requires : (t : ℕ) → construct-lts.Need-collect-requires (construct-calls t) (construct-at t) construct.Post construct-Inv-loop construct-μ-loop
 construct-collect-requires t c κs = search needs
 
--- pub fn construct(f: &[u32], c: &mut [u32], w: &mut [u32], top: u32, h: u32, many: u32, v: Val, m: Meter) -> Ended
-construct-same-length-3 : (t : ℕ) → construct-lts.Need-same-length-3 (construct-calls t) (construct-at t) construct.Post construct-Inv-loop construct-μ-loop
-construct-same-length-3 t c = search needs
+-- pub fn construct(
+construct-same-length-2 : (t : ℕ) → construct-lts.Need-same-length-2 (construct-calls t) (construct-at t) construct.Post construct-Inv-loop construct-μ-loop
+construct-same-length-2 t c = search needs
 
--- pub fn construct(f: &[u32], c: &mut [u32], w: &mut [u32], top: u32, h: u32, many: u32, v: Val, m: Meter) -> Ended
-construct-same-length-4 : (t : ℕ) → construct-lts.Need-same-length-4 (construct-calls t) (construct-at t) construct.Post construct-Inv-loop construct-μ-loop
-construct-same-length-4 t c = search needs
-
--- pub fn construct(f: &[u32], c: &mut [u32], w: &mut [u32], top: u32, h: u32, many: u32, v: Val, m: Meter) -> Ended
+-- pub fn construct(
 construct-returns-2 : (t : ℕ) → construct-lts.Need-returns-2 (construct-calls t) (construct-at t) construct.Post construct-Inv-loop construct-μ-loop
 construct-returns-2 t c = search build-done
 
@@ -799,10 +564,6 @@ each-same-length : (t : ℕ) → each-lts.Need-same-length (each-calls t) (each-
 each-same-length t c = search needs
 
 -- Ended::Stop(a, k) => return Ended::Stop(a, k),
-each-same-length-2 : (t : ℕ) → each-lts.Need-same-length-2 (each-calls t) (each-at t) each.Post each-Inv-loop each-μ-loop
-each-same-length-2 t c = search needs
-
--- Ended::Stop(a, k) => return Ended::Stop(a, k),
 each-returns-2 : (t : ℕ) → each-lts.Need-returns-2 (each-calls t) (each-at t) each.Post each-Inv-loop each-μ-loop
 each-returns-2 t c = search map-halt
 
@@ -826,15 +587,11 @@ each-loop-again t c = search map-turn
 each-collect-requires : (t : ℕ) → each-lts.Need-collect-requires (each-calls t) (each-at t) each.Post each-Inv-loop each-μ-loop
 each-collect-requires t c κs = search needs
 
--- pub fn each(f: &[u32], c: &mut [u32], w: &mut [u32], top: u32, g: u32, v: Val, m: Meter) -> Ended
-each-same-length-3 : (t : ℕ) → each-lts.Need-same-length-3 (each-calls t) (each-at t) each.Post each-Inv-loop each-μ-loop
-each-same-length-3 t c = search needs
+-- pub fn each(f: &[u32; 8192], c: &mut [u32], w: &mut [u32; 16384], top: u32, g: u32, v: Val, m: Meter) -> Ended
+each-same-length-2 : (t : ℕ) → each-lts.Need-same-length-2 (each-calls t) (each-at t) each.Post each-Inv-loop each-μ-loop
+each-same-length-2 t c = search needs
 
--- pub fn each(f: &[u32], c: &mut [u32], w: &mut [u32], top: u32, g: u32, v: Val, m: Meter) -> Ended
-each-same-length-4 : (t : ℕ) → each-lts.Need-same-length-4 (each-calls t) (each-at t) each.Post each-Inv-loop each-μ-loop
-each-same-length-4 t c = search needs
-
--- pub fn each(f: &[u32], c: &mut [u32], w: &mut [u32], top: u32, g: u32, v: Val, m: Meter) -> Ended
+-- pub fn each(f: &[u32; 8192], c: &mut [u32], w: &mut [u32; 16384], top: u32, g: u32, v: Val, m: Meter) -> Ended
 each-returns-3 : (t : ℕ) → each-lts.Need-returns-3 (each-calls t) (each-at t) each.Post each-Inv-loop each-μ-loop
 each-returns-3 t c = search map-done
 
@@ -854,11 +611,11 @@ fold-enum-known-k t c = search needs
 fold-enum-known-k-2 : (t : ℕ) → fold-lts.Need-enum-known-k-2 (fold-calls t) (fold-at t) fold.Post
 fold-enum-known-k-2 t c = search needs
 
--- let a = cells::nth(c, s, q);
+-- let x = cells::nth(c, s, q);
 fold-nth-requires : (t : ℕ) → fold-lts.Need-nth-requires (fold-calls t) (fold-at t) fold.Post
 fold-nth-requires t c κs = search needs
 
--- let y = cells::pair(c, p, a, v);
+-- let y = cells::pair(c, p, x, v);
 fold-pair-requires : (t : ℕ) → fold-lts.Need-pair-requires (fold-calls t) (fold-at t) fold.Post
 fold-pair-requires t c κs = search needs
 
@@ -866,23 +623,19 @@ fold-pair-requires t c κs = search needs
 fold-apply-requires : (t : ℕ) → fold-lts.Need-apply-requires (fold-calls t) (fold-at t) fold.Post
 fold-apply-requires t c κs = search (below-taken, needs)
 
--- pub fn fold(f: &[u32], c: &mut [u32], w: &mut [u32], top: u32, g: u32, s: Val, q: u32, v: Val, m: Meter) -> Ended
+-- pub fn fold(
 fold-same-length : (t : ℕ) → fold-lts.Need-same-length (fold-calls t) (fold-at t) fold.Post
 fold-same-length t c = search needs
 
--- pub fn fold(f: &[u32], c: &mut [u32], w: &mut [u32], top: u32, g: u32, s: Val, q: u32, v: Val, m: Meter) -> Ended
+-- pub fn fold(
 fold-returns : (t : ℕ) → fold-lts.Need-returns (fold-calls t) (fold-at t) fold.Post
 fold-returns t c = search fold-full
 
--- pub fn fold(f: &[u32], c: &mut [u32], w: &mut [u32], top: u32, g: u32, s: Val, q: u32, v: Val, m: Meter) -> Ended
+-- pub fn fold(
 fold-same-length-2 : (t : ℕ) → fold-lts.Need-same-length-2 (fold-calls t) (fold-at t) fold.Post
 fold-same-length-2 t c = search needs
 
--- pub fn fold(f: &[u32], c: &mut [u32], w: &mut [u32], top: u32, g: u32, s: Val, q: u32, v: Val, m: Meter) -> Ended
-fold-same-length-3 : (t : ℕ) → fold-lts.Need-same-length-3 (fold-calls t) (fold-at t) fold.Post
-fold-same-length-3 t c = search needs
-
--- pub fn fold(f: &[u32], c: &mut [u32], w: &mut [u32], top: u32, g: u32, s: Val, q: u32, v: Val, m: Meter) -> Ended
+-- pub fn fold(
 fold-returns-2 : (t : ℕ) → fold-lts.Need-returns-2 (fold-calls t) (fold-at t) fold.Post
 fold-returns-2 t c = search fold-done
 
@@ -945,22 +698,14 @@ insert-same-length : (t : ℕ) → insert-lts.Need-same-length (insert-calls t) 
 insert-same-length t c = search needs
 
 -- Ended::Stop(a, k) => return Ended::Stop(a, k),
-insert-same-length-2 : (t : ℕ) → insert-lts.Need-same-length-2 (insert-calls t) (insert-at t) insert.Post insert-Inv-loop insert-μ-loop
-insert-same-length-2 t c = search needs
-
--- Ended::Stop(a, k) => return Ended::Stop(a, k),
 insert-returns-3 : (t : ℕ) → insert-lts.Need-returns-3 (insert-calls t) (insert-at t) insert.Post insert-Inv-loop insert-μ-loop
 insert-returns-3 t c = search insert-halt
 
--- pub fn insert(f: &[u32], c: &mut [u32], w: &mut [u32], top: u32, g: u32, v: Val, m: Meter) -> Ended
-insert-same-length-3 : (t : ℕ) → insert-lts.Need-same-length-3 (insert-calls t) (insert-at t) insert.Post insert-Inv-loop insert-μ-loop
-insert-same-length-3 t c = search needs
+-- pub fn insert(f: &[u32; 8192], c: &mut [u32], w: &mut [u32; 16384], top: u32, g: u32, v: Val, m: Meter) -> Ended
+insert-same-length-2 : (t : ℕ) → insert-lts.Need-same-length-2 (insert-calls t) (insert-at t) insert.Post insert-Inv-loop insert-μ-loop
+insert-same-length-2 t c = search needs
 
--- pub fn insert(f: &[u32], c: &mut [u32], w: &mut [u32], top: u32, g: u32, v: Val, m: Meter) -> Ended
-insert-same-length-4 : (t : ℕ) → insert-lts.Need-same-length-4 (insert-calls t) (insert-at t) insert.Post insert-Inv-loop insert-μ-loop
-insert-same-length-4 t c = search needs
-
--- pub fn insert(f: &[u32], c: &mut [u32], w: &mut [u32], top: u32, g: u32, v: Val, m: Meter) -> Ended
+-- pub fn insert(f: &[u32; 8192], c: &mut [u32], w: &mut [u32; 16384], top: u32, g: u32, v: Val, m: Meter) -> Ended
 insert-returns-4 : (t : ℕ) → insert-lts.Need-returns-4 (insert-calls t) (insert-at t) insert.Post insert-Inv-loop insert-μ-loop
 insert-returns-4 t c = search insert-end
 
@@ -1000,33 +745,25 @@ name-enum-known-y t c = search needs
 name-close-name-requires : (t : ℕ) → name-lts.Need-close-name-requires (name-calls t) (name-at t) name.Post
 name-close-name-requires t c κs = search needs
 
--- pub fn name(f: &[u32], c: &mut [u32], w: &mut [u32], top: u32, d: u32, v: Val, m: Meter) -> Ended
+-- pub fn name(f: &[u32; 8192], c: &mut [u32], w: &mut [u32; 16384], top: u32, d: u32, v: Val, m: Meter) -> Ended
 name-returns-2 : (t : ℕ) → name-lts.Need-returns-2 (name-calls t) (name-at t) name.Post
 name-returns-2 t c = search name-full
 
--- pub fn name(f: &[u32], c: &mut [u32], w: &mut [u32], top: u32, d: u32, v: Val, m: Meter) -> Ended
+-- pub fn name(f: &[u32; 8192], c: &mut [u32], w: &mut [u32; 16384], top: u32, d: u32, v: Val, m: Meter) -> Ended
 name-same-length : (t : ℕ) → name-lts.Need-same-length (name-calls t) (name-at t) name.Post
 name-same-length t c = search needs
 
--- pub fn name(f: &[u32], c: &mut [u32], w: &mut [u32], top: u32, d: u32, v: Val, m: Meter) -> Ended
-name-same-length-2 : (t : ℕ) → name-lts.Need-same-length-2 (name-calls t) (name-at t) name.Post
-name-same-length-2 t c = search needs
-
--- pub fn name(f: &[u32], c: &mut [u32], w: &mut [u32], top: u32, d: u32, v: Val, m: Meter) -> Ended
+-- pub fn name(f: &[u32; 8192], c: &mut [u32], w: &mut [u32; 16384], top: u32, d: u32, v: Val, m: Meter) -> Ended
 name-returns-3 : (t : ℕ) → name-lts.Need-returns-3 (name-calls t) (name-at t) name.Post
 name-returns-3 t c = search name-stop
 
--- pub fn name(f: &[u32], c: &mut [u32], w: &mut [u32], top: u32, d: u32, v: Val, m: Meter) -> Ended
-name-same-length-3 : (t : ℕ) → name-lts.Need-same-length-3 (name-calls t) (name-at t) name.Post
-name-same-length-3 t c = search needs
+-- pub fn name(f: &[u32; 8192], c: &mut [u32], w: &mut [u32; 16384], top: u32, d: u32, v: Val, m: Meter) -> Ended
+name-same-length-2 : (t : ℕ) → name-lts.Need-same-length-2 (name-calls t) (name-at t) name.Post
+name-same-length-2 t c = search needs
 
--- pub fn name(f: &[u32], c: &mut [u32], w: &mut [u32], top: u32, d: u32, v: Val, m: Meter) -> Ended
-name-same-length-4 : (t : ℕ) → name-lts.Need-same-length-4 (name-calls t) (name-at t) name.Post
-name-same-length-4 t c = search needs
-
--- pub fn name(f: &[u32], c: &mut [u32], w: &mut [u32], top: u32, d: u32, v: Val, m: Meter) -> Ended
+-- pub fn name(f: &[u32; 8192], c: &mut [u32], w: &mut [u32; 16384], top: u32, d: u32, v: Val, m: Meter) -> Ended
 name-returns-4 : (t : ℕ) → name-lts.Need-returns-4 (name-calls t) (name-at t) name.Post
-name-returns-4 t c = let g = c .before .before .before .before .before .before .before .before .before .before .before .before .before .before .before .before .before .before .before .good .1 .1 .1 .1 .1 .1 .0 in let l : c .before .before .before .before .before .before .before .before .before .before .before .before .before .before .before .before .before .before .before .args .m .names < 4294967296 = omega (arith, g) in search name-done
+name-returns-4 t c = let g = c .before .before .before .before .before .before .before .before .before .before .before .before .before .before .before .good .1 .1 .1 .1 .1 .1 .0 in let l : c .before .before .before .before .before .before .before .before .before .before .before .before .before .before .before .args .m .names < 4294967296 = omega (arith, g) in search name-done
 
 abbrev repeat-Inv-loop : repeat-lts.InvT-loop
 repeat-Inv-loop f c₀ w₀ top h g x₀ n₀ c w x n = Repeating f c₀ w₀ top h x₀ n₀ c w x n
@@ -1055,10 +792,6 @@ repeat-same-length : (t : ℕ) → repeat-lts.Need-same-length (repeat-calls t) 
 repeat-same-length t c = search needs
 
 -- Asked::Stop(a, k) => return Ended::Stop(a, k),
-repeat-same-length-2 : (t : ℕ) → repeat-lts.Need-same-length-2 (repeat-calls t) (repeat-at t) repeat.Post repeat-Inv-loop repeat-μ-loop
-repeat-same-length-2 t c = search needs
-
--- Asked::Stop(a, k) => return Ended::Stop(a, k),
 repeat-returns : (t : ℕ) → repeat-lts.Need-returns (repeat-calls t) (repeat-at t) repeat.Post repeat-Inv-loop repeat-μ-loop
 repeat-returns t c = search repeat-stop
 
@@ -1067,12 +800,8 @@ repeat-enum-known-k : (t : ℕ) → repeat-lts.Need-enum-known-k (repeat-calls t
 repeat-enum-known-k t c = search needs
 
 -- Asked::No(k) => return Ended::Done(x, k),
-repeat-same-length-3 : (t : ℕ) → repeat-lts.Need-same-length-3 (repeat-calls t) (repeat-at t) repeat.Post repeat-Inv-loop repeat-μ-loop
-repeat-same-length-3 t c = search needs
-
--- Asked::No(k) => return Ended::Done(x, k),
-repeat-same-length-4 : (t : ℕ) → repeat-lts.Need-same-length-4 (repeat-calls t) (repeat-at t) repeat.Post repeat-Inv-loop repeat-μ-loop
-repeat-same-length-4 t c = search needs
+repeat-same-length-2 : (t : ℕ) → repeat-lts.Need-same-length-2 (repeat-calls t) (repeat-at t) repeat.Post repeat-Inv-loop repeat-μ-loop
+repeat-same-length-2 t c = search needs
 
 -- Asked::No(k) => return Ended::Done(x, k),
 repeat-returns-2 : (t : ℕ) → repeat-lts.Need-returns-2 (repeat-calls t) (repeat-at t) repeat.Post repeat-Inv-loop repeat-μ-loop
@@ -1091,12 +820,8 @@ repeat-enum-known-a-2 : (t : ℕ) → repeat-lts.Need-enum-known-a-2 (repeat-cal
 repeat-enum-known-a-2 t c = search needs
 
 -- Ended::Stop(a, l) => return Ended::Stop(a, l),
-repeat-same-length-5 : (t : ℕ) → repeat-lts.Need-same-length-5 (repeat-calls t) (repeat-at t) repeat.Post repeat-Inv-loop repeat-μ-loop
-repeat-same-length-5 t c = search needs
-
--- Ended::Stop(a, l) => return Ended::Stop(a, l),
-repeat-same-length-6 : (t : ℕ) → repeat-lts.Need-same-length-6 (repeat-calls t) (repeat-at t) repeat.Post repeat-Inv-loop repeat-μ-loop
-repeat-same-length-6 t c = search needs
+repeat-same-length-3 : (t : ℕ) → repeat-lts.Need-same-length-3 (repeat-calls t) (repeat-at t) repeat.Post repeat-Inv-loop repeat-μ-loop
+repeat-same-length-3 t c = search needs
 
 -- Ended::Stop(a, l) => return Ended::Stop(a, l),
 repeat-returns-3 : (t : ℕ) → repeat-lts.Need-returns-3 (repeat-calls t) (repeat-at t) repeat.Post repeat-Inv-loop repeat-μ-loop
@@ -1130,33 +855,185 @@ slot-hold-requires t c κs = search needs
 slot-enum-known-a : (t : ℕ) → slot-lts.Need-enum-known-a (slot-calls t) (slot-at t) slot.Post
 slot-enum-known-a t c = search needs
 
--- pub fn slot(f: &[u32], c: &mut [u32], w: &mut [u32], top: u32, i: u32, v: Val, m: Meter) -> Ended
+-- pub fn slot(f: &[u32; 8192], c: &mut [u32], w: &mut [u32; 16384], top: u32, i: u32, v: Val, m: Meter) -> Ended
 slot-same-length : (t : ℕ) → slot-lts.Need-same-length (slot-calls t) (slot-at t) slot.Post
 slot-same-length t c = search needs
 
--- pub fn slot(f: &[u32], c: &mut [u32], w: &mut [u32], top: u32, i: u32, v: Val, m: Meter) -> Ended
-slot-same-length-2 : (t : ℕ) → slot-lts.Need-same-length-2 (slot-calls t) (slot-at t) slot.Post
-slot-same-length-2 t c = search needs
-
--- pub fn slot(f: &[u32], c: &mut [u32], w: &mut [u32], top: u32, i: u32, v: Val, m: Meter) -> Ended
+-- pub fn slot(f: &[u32; 8192], c: &mut [u32], w: &mut [u32; 16384], top: u32, i: u32, v: Val, m: Meter) -> Ended
 slot-returns : (t : ℕ) → slot-lts.Need-returns (slot-calls t) (slot-at t) slot.Post
 slot-returns t c = search slot-done
 
--- pub fn slot(f: &[u32], c: &mut [u32], w: &mut [u32], top: u32, i: u32, v: Val, m: Meter) -> Ended
-slot-same-length-3 : (t : ℕ) → slot-lts.Need-same-length-3 (slot-calls t) (slot-at t) slot.Post
-slot-same-length-3 t c = search needs
+-- pub fn slot(f: &[u32; 8192], c: &mut [u32], w: &mut [u32; 16384], top: u32, i: u32, v: Val, m: Meter) -> Ended
+slot-same-length-2 : (t : ℕ) → slot-lts.Need-same-length-2 (slot-calls t) (slot-at t) slot.Post
+slot-same-length-2 t c = search needs
 
--- pub fn slot(f: &[u32], c: &mut [u32], w: &mut [u32], top: u32, i: u32, v: Val, m: Meter) -> Ended
-slot-same-length-4 : (t : ℕ) → slot-lts.Need-same-length-4 (slot-calls t) (slot-at t) slot.Post
-slot-same-length-4 t c = search needs
-
--- pub fn slot(f: &[u32], c: &mut [u32], w: &mut [u32], top: u32, i: u32, v: Val, m: Meter) -> Ended
+-- pub fn slot(f: &[u32; 8192], c: &mut [u32], w: &mut [u32; 16384], top: u32, i: u32, v: Val, m: Meter) -> Ended
 slot-returns-2 : (t : ℕ) → slot-lts.Need-returns-2 (slot-calls t) (slot-at t) slot.Post
 slot-returns-2 t c = search slot-stop
 
-pub +apply+ask+bu+chain+condition+construct+each+fold+insert+name+repeat+slot-spec :
+-- let k = match m.charge_step() {
+step-charge-step-requires : (t : ℕ) → step-lts.Need-charge-step-requires (step-calls t) (step-at t) step.Post
+step-charge-step-requires t c κs = search needs
+
+-- Charge::Spent(k) => return Ended::Stop(22, k),
+step-enum-known-k : (t : ℕ) → step-lts.Need-enum-known-k (step-calls t) (step-at t) step.Post
+step-enum-known-k t c = search needs
+
+-- Charge::Spent(k) => return Ended::Stop(22, k),
+step-returns : (t : ℕ) → step-lts.Need-returns (step-calls t) (step-at t) step.Post
+step-returns t c = search apply-spent
+
+-- Charge::Granted(k) => k,
+step-enum-known-k-2 : (t : ℕ) → step-lts.Need-enum-known-k-2 (step-calls t) (step-at t) step.Post
+step-enum-known-k-2 t c = search needs
+
+-- let h = inner(i);
+step-inner-requires : (t : ℕ) → step-lts.Need-inner-requires (step-calls t) (step-at t) step.Post
+step-inner-requires t c κs = search needs
+
+-- let shape = kind(f, i);
+step-kind-requires : (t : ℕ) → step-lts.Need-kind-requires (step-calls t) (step-at t) step.Post
+step-kind-requires t c κs = search needs
+
+-- 1 => leaf(f, c, 1, i, v, k),
+step-leaf-requires : (t : ℕ) → step-lts.Need-leaf-requires (step-calls t) (step-at t) step.Post
+step-leaf-requires t c κs = search needs
+
+-- 4 => name(f, c, w, top, arity(f, i), v, k),
+step-arity-requires : (t : ℕ) → step-lts.Need-arity-requires (step-calls t) (step-at t) step.Post
+step-arity-requires t c κs = search needs
+
+-- 4 => name(f, c, w, top, arity(f, i), v, k),
+step-name-requires : (t : ℕ) → step-lts.Need-name-requires (step-calls t) (step-at t) step.Post
+step-name-requires t c κs = search (below-step, needs)
+
+-- 5 => chain(f, c, w, top, low(f, i), v, k),
+step-low-requires : (t : ℕ) → step-lts.Need-low-requires (step-calls t) (step-at t) step.Post
+step-low-requires t c κs = search needs
+
+-- 5 => chain(f, c, w, top, low(f, i), v, k),
+step-chain-requires : (t : ℕ) → step-lts.Need-chain-requires (step-calls t) (step-at t) step.Post
+step-chain-requires t c κs = search (below-step, needs)
+
+-- 6 => construct(f, c, w, top, h, arity(f, i), v, k),
+step-arity-requires-2 : (t : ℕ) → step-lts.Need-arity-requires-2 (step-calls t) (step-at t) step.Post
+step-arity-requires-2 t c κs = search needs
+
+-- 6 => construct(f, c, w, top, h, arity(f, i), v, k),
+step-construct-requires : (t : ℕ) → step-lts.Need-construct-requires (step-calls t) (step-at t) step.Post
+step-construct-requires t c κs = search (below-step, needs)
+
+-- 7 => insert(f, c, w, top, h, v, k),
+step-insert-requires : (t : ℕ) → step-lts.Need-insert-requires (step-calls t) (step-at t) step.Post
+step-insert-requires t c κs = search (below-step, needs)
+
+-- 8 => each(f, c, w, top, h, v, k),
+step-each-requires : (t : ℕ) → step-lts.Need-each-requires (step-calls t) (step-at t) step.Post
+step-each-requires t c κs = search (below-step, needs)
+
+-- 9 => condition(f, c, w, top, h, v, k),
+step-condition-requires : (t : ℕ) → step-lts.Need-condition-requires (step-calls t) (step-at t) step.Post
+step-condition-requires t c κs = search (below-step, needs)
+
+-- 10 => repeat(f, c, w, top, h, v, k),
+step-repeat-requires : (t : ℕ) → step-lts.Need-repeat-requires (step-calls t) (step-at t) step.Post
+step-repeat-requires t c κs = search (below-step, needs)
+
+-- 16 => bu(f, c, w, top, h, constant(f, i), v, k),
+step-constant-requires : (t : ℕ) → step-lts.Need-constant-requires (step-calls t) (step-at t) step.Post
+step-constant-requires t c κs = search needs
+
+-- 16 => bu(f, c, w, top, h, constant(f, i), v, k),
+step-bu-requires : (t : ℕ) → step-lts.Need-bu-requires (step-calls t) (step-at t) step.Post
+step-bu-requires t c κs = search (below-step, needs)
+
+-- _ => leaf(f, c, shape, i, v, k),
+step-leaf-requires-2 : (t : ℕ) → step-lts.Need-leaf-requires-2 (step-calls t) (step-at t) step.Post
+step-leaf-requires-2 t c κs = search needs
+
+-- pub fn step(
+step-same-length : (t : ℕ) → step-lts.Need-same-length (step-calls t) (step-at t) step.Post
+step-same-length t c = search needs
+
+-- pub fn step(
+step-returns-2 : (t : ℕ) → step-lts.Need-returns-2 (step-calls t) (step-at t) step.Post
+step-returns-2 t c = search (applied, on-word)
+
+-- pub fn step(
+step-same-length-2 : (t : ℕ) → step-lts.Need-same-length-2 (step-calls t) (step-at t) step.Post
+step-same-length-2 t c = search needs
+
+-- pub fn step(
+step-returns-3 : (t : ℕ) → step-lts.Need-returns-3 (step-calls t) (step-at t) step.Post
+step-returns-3 t c = search (applied, on-name)
+
+-- pub fn step(
+step-same-length-3 : (t : ℕ) → step-lts.Need-same-length-3 (step-calls t) (step-at t) step.Post
+step-same-length-3 t c = search needs
+
+-- pub fn step(
+step-returns-4 : (t : ℕ) → step-lts.Need-returns-4 (step-calls t) (step-at t) step.Post
+step-returns-4 t c = search (applied, on-chain)
+
+-- pub fn step(
+step-same-length-4 : (t : ℕ) → step-lts.Need-same-length-4 (step-calls t) (step-at t) step.Post
+step-same-length-4 t c = search needs
+
+-- pub fn step(
+step-returns-5 : (t : ℕ) → step-lts.Need-returns-5 (step-calls t) (step-at t) step.Post
+step-returns-5 t c = search (applied, on-construct)
+
+-- pub fn step(
+step-same-length-5 : (t : ℕ) → step-lts.Need-same-length-5 (step-calls t) (step-at t) step.Post
+step-same-length-5 t c = search needs
+
+-- pub fn step(
+step-returns-6 : (t : ℕ) → step-lts.Need-returns-6 (step-calls t) (step-at t) step.Post
+step-returns-6 t c = search (applied, on-insert)
+
+-- pub fn step(
+step-same-length-6 : (t : ℕ) → step-lts.Need-same-length-6 (step-calls t) (step-at t) step.Post
+step-same-length-6 t c = search needs
+
+-- pub fn step(
+step-returns-7 : (t : ℕ) → step-lts.Need-returns-7 (step-calls t) (step-at t) step.Post
+step-returns-7 t c = search (applied, on-all)
+
+-- pub fn step(
+step-same-length-7 : (t : ℕ) → step-lts.Need-same-length-7 (step-calls t) (step-at t) step.Post
+step-same-length-7 t c = search needs
+
+-- pub fn step(
+step-returns-8 : (t : ℕ) → step-lts.Need-returns-8 (step-calls t) (step-at t) step.Post
+step-returns-8 t c = search (applied, on-condition)
+
+-- pub fn step(
+step-same-length-8 : (t : ℕ) → step-lts.Need-same-length-8 (step-calls t) (step-at t) step.Post
+step-same-length-8 t c = search needs
+
+-- pub fn step(
+step-returns-9 : (t : ℕ) → step-lts.Need-returns-9 (step-calls t) (step-at t) step.Post
+step-returns-9 t c = search (applied, on-while)
+
+-- pub fn step(
+step-same-length-9 : (t : ℕ) → step-lts.Need-same-length-9 (step-calls t) (step-at t) step.Post
+step-same-length-9 t c = search needs
+
+-- pub fn step(
+step-returns-10 : (t : ℕ) → step-lts.Need-returns-10 (step-calls t) (step-at t) step.Post
+step-returns-10 t c = search (applied, on-bu)
+
+-- pub fn step(
+step-same-length-10 : (t : ℕ) → step-lts.Need-same-length-10 (step-calls t) (step-at t) step.Post
+step-same-length-10 t c = search needs
+
+-- pub fn step(
+step-returns-11 : (t : ℕ) → step-lts.Need-returns-11 (step-calls t) (step-at t) step.Post
+step-returns-11 t c = search apply-leaf
+
+pub +apply+ask+bu+chain+condition+construct+each+fold+insert+name+repeat+slot+step-spec :
     {M : Type 1} → statement M
-+apply+ask+bu+chain+condition+construct+each+fold+insert+name+repeat+slot-spec =
++apply+ask+bu+chain+condition+construct+each+fold+insert+name+repeat+slot+step-spec =
     close
     μ-apply
     μ-ask
@@ -1170,66 +1047,17 @@ pub +apply+ask+bu+chain+condition+construct+each+fold+insert+name+repeat+slot-sp
     μ-name
     μ-repeat
     μ-slot
+    μ-step
     (λ t. apply-lts.spec (apply-calls t)
     (apply-at t)
     apply.Post
-    (apply-charge-step-requires t)
-    (apply-enum-known-k t)
-    (apply-returns t)
-    (apply-enum-known-k-2 t)
-    (apply-inner-requires t)
-    (apply-kind-requires t)
-    (apply-low-requires t)
-    (apply-apply-word-requires t)
-    (apply-low-requires-2 t)
-    (apply-select-requires t)
-    (apply-low-requires-3 t)
-    (apply-select-right-requires t)
-    (apply-arity-requires t)
-    (apply-name-requires t)
-    (apply-low-requires-4 t)
-    (apply-chain-requires t)
-    (apply-arity-requires-2 t)
-    (apply-construct-requires t)
-    (apply-insert-requires t)
-    (apply-each-requires t)
-    (apply-condition-requires t)
-    (apply-repeat-requires t)
-    (apply-constant-requires t)
-    (apply-constant-requires-2 t)
-    (apply-bu-requires t)
+    (apply-step-requires t)
+    (apply-enum-known-y t)
+    (apply-enum-known-a t)
     (apply-same-length t)
-    (apply-returns-2 t)
+    (apply-returns t)
     (apply-same-length-2 t)
-    (apply-returns-3 t)
-    (apply-same-length-3 t)
-    (apply-returns-4 t)
-    (apply-same-length-4 t)
-    (apply-same-length-5 t)
-    (apply-returns-5 t)
-    (apply-same-length-6 t)
-    (apply-same-length-7 t)
-    (apply-returns-6 t)
-    (apply-same-length-8 t)
-    (apply-same-length-9 t)
-    (apply-returns-7 t)
-    (apply-same-length-10 t)
-    (apply-same-length-11 t)
-    (apply-returns-8 t)
-    (apply-same-length-12 t)
-    (apply-same-length-13 t)
-    (apply-returns-9 t)
-    (apply-same-length-14 t)
-    (apply-same-length-15 t)
-    (apply-returns-10 t)
-    (apply-same-length-16 t)
-    (apply-same-length-17 t)
-    (apply-returns-11 t)
-    (apply-returns-12 t)
-    (apply-same-length-18 t)
-    (apply-same-length-19 t)
-    (apply-returns-13 t)
-    (apply-returns-14 t))
+    (apply-returns-2 t))
     (λ t. ask-lts.spec (ask-calls t)
     (ask-at t)
     ask.Post
@@ -1238,16 +1066,12 @@ pub +apply+ask+bu+chain+condition+construct+each+fold+insert+name+repeat+slot-sp
     (ask-enum-known-y t)
     (ask-verdict-requires t)
     (ask-same-length t)
-    (ask-same-length-2 t)
     (ask-returns t)
-    (ask-same-length-3 t)
-    (ask-same-length-4 t)
+    (ask-same-length-2 t)
     (ask-returns-2 t)
-    (ask-same-length-5 t)
-    (ask-same-length-6 t)
+    (ask-same-length-3 t)
     (ask-returns-3 t)
-    (ask-same-length-7 t)
-    (ask-same-length-8 t)
+    (ask-same-length-4 t)
     (ask-returns-4 t))
     (λ t. bu-lts.spec (bu-calls t)
     (bu-at t)
@@ -1261,7 +1085,6 @@ pub +apply+ask+bu+chain+condition+construct+each+fold+insert+name+repeat+slot-sp
     (bu-same-length t)
     (bu-returns t)
     (bu-same-length-2 t)
-    (bu-same-length-3 t)
     (bu-returns-2 t))
     (λ t. chain-lts.spec (chain-calls t)
     (chain-at t)
@@ -1273,13 +1096,11 @@ pub +apply+ask+bu+chain+condition+construct+each+fold+insert+name+repeat+slot-sp
     (chain-enum-known-y t)
     (chain-enum-known-a t)
     (chain-same-length t)
-    (chain-same-length-2 t)
     (chain-returns t)
     (chain-next-requires t)
     (chain-loop-less t)
     (chain-loop-again t)
-    (chain-same-length-3 t)
-    (chain-same-length-4 t)
+    (chain-same-length-2 t)
     (chain-returns-2 t))
     (λ t. condition-lts.spec (condition-calls t)
     (condition-at t)
@@ -1293,13 +1114,10 @@ pub +apply+ask+bu+chain+condition+construct+each+fold+insert+name+repeat+slot-sp
     (condition-next-requires-2 t)
     (condition-apply-requires-2 t)
     (condition-same-length t)
-    (condition-same-length-2 t)
     (condition-returns t)
-    (condition-same-length-3 t)
-    (condition-same-length-4 t)
+    (condition-same-length-2 t)
     (condition-returns-2 t)
-    (condition-same-length-5 t)
-    (condition-same-length-6 t)
+    (condition-same-length-3 t)
     (condition-returns-3 t))
     (λ t. construct-lts.spec (construct-calls t)
     (construct-at t)
@@ -1312,15 +1130,13 @@ pub +apply+ask+bu+chain+condition+construct+each+fold+insert+name+repeat+slot-sp
     (construct-enum-known-k t)
     (construct-enum-known-a t)
     (construct-same-length t)
-    (construct-same-length-2 t)
     (construct-returns t)
     (construct-next-requires t)
     (construct-add-q t)
     (construct-loop-less t)
     (construct-loop-again t)
     (construct-collect-requires t)
-    (construct-same-length-3 t)
-    (construct-same-length-4 t)
+    (construct-same-length-2 t)
     (construct-returns-2 t))
     (λ t. each-lts.spec (each-calls t)
     (each-at t)
@@ -1336,15 +1152,13 @@ pub +apply+ask+bu+chain+condition+construct+each+fold+insert+name+repeat+slot-sp
     (each-enum-known-k t)
     (each-enum-known-a t)
     (each-same-length t)
-    (each-same-length-2 t)
     (each-returns-2 t)
     (each-tail-requires t)
     (each-add-q t)
     (each-loop-less t)
     (each-loop-again t)
     (each-collect-requires t)
-    (each-same-length-3 t)
-    (each-same-length-4 t)
+    (each-same-length-2 t)
     (each-returns-3 t))
     (λ t. fold-lts.spec (fold-calls t)
     (fold-at t)
@@ -1359,7 +1173,6 @@ pub +apply+ask+bu+chain+condition+construct+each+fold+insert+name+repeat+slot-sp
     (fold-same-length t)
     (fold-returns t)
     (fold-same-length-2 t)
-    (fold-same-length-3 t)
     (fold-returns-2 t))
     (λ t. insert-lts.spec (insert-calls t)
     (insert-at t)
@@ -1379,10 +1192,8 @@ pub +apply+ask+bu+chain+condition+construct+each+fold+insert+name+repeat+slot-sp
     (insert-loop-again t)
     (insert-enum-known-a t)
     (insert-same-length t)
-    (insert-same-length-2 t)
     (insert-returns-3 t)
-    (insert-same-length-3 t)
-    (insert-same-length-4 t)
+    (insert-same-length-2 t)
     (insert-returns-4 t))
     (λ t. name-lts.spec (name-calls t)
     (name-at t)
@@ -1398,10 +1209,8 @@ pub +apply+ask+bu+chain+condition+construct+each+fold+insert+name+repeat+slot-sp
     (name-close-name-requires t)
     (name-returns-2 t)
     (name-same-length t)
-    (name-same-length-2 t)
     (name-returns-3 t)
-    (name-same-length-3 t)
-    (name-same-length-4 t)
+    (name-same-length-2 t)
     (name-returns-4 t))
     (λ t. repeat-lts.spec (repeat-calls t)
     (repeat-at t)
@@ -1413,22 +1222,19 @@ pub +apply+ask+bu+chain+condition+construct+each+fold+insert+name+repeat+slot-sp
     (repeat-ask-requires t)
     (repeat-enum-known-a t)
     (repeat-same-length t)
-    (repeat-same-length-2 t)
     (repeat-returns t)
     (repeat-enum-known-k t)
-    (repeat-same-length-3 t)
-    (repeat-same-length-4 t)
+    (repeat-same-length-2 t)
     (repeat-returns-2 t)
     (repeat-enum-known-k-2 t)
     (repeat-apply-requires t)
     (repeat-enum-known-a-2 t)
-    (repeat-same-length-5 t)
-    (repeat-same-length-6 t)
+    (repeat-same-length-3 t)
     (repeat-returns-3 t)
     (repeat-enum-known-z t)
     (repeat-loop-less t)
     (repeat-loop-again t))
-    λ t. slot-lts.spec (slot-calls t)
+    (λ t. slot-lts.spec (slot-calls t)
     (slot-at t)
     slot.Post
     (slot-apply-requires t)
@@ -1436,8 +1242,49 @@ pub +apply+ask+bu+chain+condition+construct+each+fold+insert+name+repeat+slot-sp
     (slot-hold-requires t)
     (slot-enum-known-a t)
     (slot-same-length t)
-    (slot-same-length-2 t)
     (slot-returns t)
-    (slot-same-length-3 t)
-    (slot-same-length-4 t)
-    (slot-returns-2 t)
+    (slot-same-length-2 t)
+    (slot-returns-2 t))
+    λ t. step-lts.spec (step-calls t)
+    (step-at t)
+    step.Post
+    (step-charge-step-requires t)
+    (step-enum-known-k t)
+    (step-returns t)
+    (step-enum-known-k-2 t)
+    (step-inner-requires t)
+    (step-kind-requires t)
+    (step-leaf-requires t)
+    (step-arity-requires t)
+    (step-name-requires t)
+    (step-low-requires t)
+    (step-chain-requires t)
+    (step-arity-requires-2 t)
+    (step-construct-requires t)
+    (step-insert-requires t)
+    (step-each-requires t)
+    (step-condition-requires t)
+    (step-repeat-requires t)
+    (step-constant-requires t)
+    (step-bu-requires t)
+    (step-leaf-requires-2 t)
+    (step-same-length t)
+    (step-returns-2 t)
+    (step-same-length-2 t)
+    (step-returns-3 t)
+    (step-same-length-3 t)
+    (step-returns-4 t)
+    (step-same-length-4 t)
+    (step-returns-5 t)
+    (step-same-length-5 t)
+    (step-returns-6 t)
+    (step-same-length-6 t)
+    (step-returns-7 t)
+    (step-same-length-7 t)
+    (step-returns-8 t)
+    (step-same-length-8 t)
+    (step-returns-9 t)
+    (step-same-length-9 t)
+    (step-returns-10 t)
+    (step-same-length-10 t)
+    (step-returns-11 t)
