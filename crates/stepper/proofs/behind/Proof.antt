@@ -135,7 +135,7 @@ module _ {M : Type 1} (𝓤 : URA M) (H : Heap 𝓤) (A : Atoms 𝓤) (W : Given
   exits : (t : Token) (u : Val) → Found t → t .place + t .length < 2 ^ 64 → ent 𝓤 (⋆ 𝓤 H A (‵ (S.the-row .own t (u ∷ [])) ∷ (‵ (flft κ q) ⊛ ‵ ftrue) ∷ ‵ Own ∷ [])) (Post (T′.lowered (moved t)))
   exits t u e fits =
       qed W (‵ (S.the-row .own t (u ∷ [])) ∷ (‵ (flft κ q) ⊛ ‵ ftrue) ∷ ‵ Own ∷ []) ∵ drop ! $
-      suffices ! _ (ends-at 𝓤 H A behind.ended stayed (behind.clauses 𝓤 H A mem run) W (((κ, tt), (q, tt), tt, (d, tt), (mach ∷ [], tt)), tt) (T′.lowered (moved t)) (moved t) (tt, tt) (tt, tt)) $ says ! (refl, ap (λ (w : Token). w .place + w .length) (e .is)) $
+      suffices ! _ (ends-at 𝓤 H A behind.ended stayed (behind.clauses 𝓤 H A mem run) W (((κ, tt), (q, tt), tt, (d, tt), (mach ∷ [], tt)), tt) (T′.lowered (moved t)) (moved t) (tt, tt) (tt, tt)) $ says ! (ap moved (e .is)) $
       frame ! $ use1 W (‵ Own ⊛ ‵ Own) (LL.copy D (T′.the-copy (namedLft 1 0 tt (κ, tt))) 𝓤 H A W .twice d (mach ∷ [])) $ split ! $ nothing ! $ move ! (1 ∷ 0 ∷ []) $ fjoin ! $ frame ! $
       -- [what the reader owns]: the sum's facts take the place of the place's
       owned ! usize (Is usize) (uint-makes 𝓤 H A W w64) (t .place + t .length) _ (refl, fits) $ move ! (1 ∷ 0 ∷ []) $ by ! (own-put 𝓤 H A W D L 1 vd (t .place + t .length) mach)
