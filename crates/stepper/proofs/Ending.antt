@@ -8,7 +8,6 @@ use lib.ListN.{length}
 use denote.Ref.{now}
 use Rattle.language.specs.declared.Token.{Token}
 use Rattle.language.specs.Tokens.{placeFrom, sizeAt, tokenFrom}
-use Rattle.stepper.specs.declared.Stepper.{Stepper}
 use Rattle.stepper.specs.Steps.{StepsOn}
 
 -- the two ways out of the word reader, for a text of n bytes: its end, or a word of size z at p
