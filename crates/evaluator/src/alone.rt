@@ -1,7 +1,7 @@
 // Applications of forms that have no parts.
 ghost use Rattle.evaluator.specs.Applying.{Alone};
-use crate::forms::constant;
-use crate::forms::low;
+use crate::records::constant;
+use crate::records::low;
 use language::Meter;
 use language::Val;
 use primitives::Ended;

@@ -2,12 +2,12 @@
 // are free. Each function calls the others with fewer steps left.
 ghost use Rattle.evaluator.specs.Applying.{Applied, Chained, Slotted, Built, Mapped, Folded, Inserted, Questioned, Repeated, Bound, Chosen, Named};
 use crate::alone::leaf;
-use crate::forms::arity;
-use crate::forms::constant;
-use crate::forms::inner;
-use crate::forms::kind;
-use crate::forms::low;
-use crate::forms::next;
+use crate::records::arity;
+use crate::records::constant;
+use crate::records::inner;
+use crate::records::kind;
+use crate::records::low;
+use crate::records::next;
 use crate::waiting::Asked;
 use crate::waiting::collect;
 use crate::waiting::place;

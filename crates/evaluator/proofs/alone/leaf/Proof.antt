@@ -7,8 +7,8 @@ use Rattle.evaluator.proofs.alone.leaf.Statement.{statement}
 use Rattle.evaluator.proofs.alone.leaf.Tie as tie
 use Rattle.evaluator.proofs.alone.leaf.Reads as reads
 use Rattle.evaluator.proofs.alone.leaf.Lts as lts
-use Rattle.evaluator.proofs.forms.constant.Reads as constant-reads
-use Rattle.evaluator.proofs.forms.low.Reads as low-reads
+use Rattle.evaluator.proofs.records.constant.Reads as constant-reads
+use Rattle.evaluator.proofs.records.low.Reads as low-reads
 use Rattle.primitives.proofs.apply_word.Reads as apply-word-reads
 use Rattle.primitives.proofs.select.Reads as select-reads
 use Rattle.primitives.proofs.select_right.Reads as select-right-reads

@@ -2,10 +2,10 @@
 use Rattle.evaluator.proofs.Numbers.{group-low, group-constant, group-bu, group-none}
 use native.Mathlib.Omega.{arith}
 use borrow.Author.Needs.{needs}
-use Rattle.evaluator.proofs.forms.kind.Statement.{statement}
-use Rattle.evaluator.proofs.forms.kind.Tie as tie
-use Rattle.evaluator.proofs.forms.kind.Reads as reads
-use Rattle.evaluator.proofs.forms.kind.Lts as lts
+use Rattle.evaluator.proofs.records.kind.Statement.{statement}
+use Rattle.evaluator.proofs.records.kind.Tie as tie
+use Rattle.evaluator.proofs.records.kind.Reads as reads
+use Rattle.evaluator.proofs.records.kind.Lts as lts
 use Rattle.tables.proofs.at.Reads as at-reads
 
 -- let k = tables::at(f, i as usize * 4) % 32;

@@ -2,10 +2,10 @@
 use Rattle.evaluator.proofs.Numbers.{constant-is}
 use native.Mathlib.Omega.{arith}
 use borrow.Author.Needs.{needs}
-use Rattle.evaluator.proofs.forms.constant.Statement.{statement}
-use Rattle.evaluator.proofs.forms.constant.Tie as tie
-use Rattle.evaluator.proofs.forms.constant.Reads as reads
-use Rattle.evaluator.proofs.forms.constant.Lts as lts
+use Rattle.evaluator.proofs.records.constant.Statement.{statement}
+use Rattle.evaluator.proofs.records.constant.Tie as tie
+use Rattle.evaluator.proofs.records.constant.Reads as reads
+use Rattle.evaluator.proofs.records.constant.Lts as lts
 use Rattle.tables.proofs.at.Reads as at-reads
 
 -- let lo = tables::at(f, i as usize * 4 + 2) as u64;
