@@ -1,12 +1,11 @@
 // The calls open to programs in C, Rust and other languages: a slice is a pointer and a length.
 ghost use Rattle.nattglod.specs.Calls.{budgets, lends};
-ghost use Rattle.c_calls.specs.Told.{told, RunTold};
-ghost use mathlib.Core.Path.{_≡_};
+ghost use Rattle.c_calls.specs.Told.{Told, RunTold};
 use language::Answer;
 
 // Writes the six numbers of an answer.
 fn tell(answer: &mut [u32], r: Answer)
-    ensures { λ _. ⌜ now (answer .exit) ≡ told (now (answer .entry)) r ⌝ }
+    ensures { λ _. ⌜ Told (now (answer .entry)) r (now (answer .exit)) ⌝ }
 {
     tables::store(answer, 0, r.number);
     tables::store(answer, 1, r.place);
@@ -31,6 +30,15 @@ pub extern "C" fn nattglod_run(
 )
     ensures { λ _. ⌜ RunTold (now (program .entry)) (now (object .entry)) (budgets steps names cells) (lends (now (forms .entry)) (now («cell_table» .entry)) (now (output .entry))) (now (answer .entry)) (now (forms .exit)) (now («cell_table» .exit)) (now (output .exit)) (now (answer .exit)) ⌝ }
 {
-    let r = nattglod::run(program, object, steps, names, cells, forms, cell_table, output);
+    let r = nattglod::run(
+        program,
+        object,
+        steps,
+        names,
+        cells,
+        forms,
+        cell_table,
+        output,
+    );
     tell(answer, r);
 }

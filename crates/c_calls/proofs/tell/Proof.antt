@@ -26,7 +26,14 @@ same-length : tie.Need-same-length
 same-length c = search needs
 
 returns : tie.Need-returns
-returns c = search told-is
+returns c =
+    let c₆ = c .before .before in
+    let c₅ = c₆ .before .before .before .before in
+    let c₄ = c₅ .before .before .before .before in
+    let c₃ = c₄ .before .before .before .before in
+    let c₂ = c₃ .before .before .before .before in
+    let c₁ = c₂ .before .before .before .before in
+    told-is (c₁ .store .ensures) (c₂ .store2 .ensures) (c₃ .store3 .ensures) (c₄ .store4 .ensures) (c₅ .store5 .ensures) (c₆ .store6 .ensures)
 
 pub tell-spec : {M : Type 1} → statement M
 tell-spec =
