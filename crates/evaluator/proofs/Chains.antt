@@ -22,10 +22,10 @@ use Rattle.primitives.specs.declared.Ended.{Ended}
 use Rattle.primitives.specs.declared.Ended.the-variants.{Done, Stop}
 use Rattle.primitives.specs.Ends.{Made, Agree}
 use Rattle.evaluator.specs.declared.waiting.Asked.{Asked}
-use Rattle.evaluator.specs.declared.waiting.Asked.the-variants.{Yes, No, Stop as AskStop}
+use Rattle.evaluator.specs.declared.waiting.Asked.the-variants.{Says, Stop as AskStop}
 use Rattle.linker.specs.Linked.{FormAt, form-at, UpTo, none-yet, one-more, DefAt, no-def, a-def, linkAt}
 use Rattle.evaluator.specs.Ring.{Kept, Finished, Stopped, fell, ran-out, Ends, ends-done, ends-stop}
-use Rattle.evaluator.specs.Applying.{Setting, by, At, LastAt, Given, Applied, Falls, Sinks, Chained, Chosen, Named, nameBy, Judged, Answers, says-yes, says-no, says-stop, Questioned, Lessens}
+use Rattle.evaluator.specs.Applying.{Setting, by, At, LastAt, Given, Applied, Falls, Sinks, Chained, Chosen, Named, nameBy, Judged, Branch, Answers, says-yes, says-no, says-stop, Questioned, Lessens}
 use Rattle.evaluator.proofs.Steps.{Since, since, since-refl, since-trans, gave, gave-stop, ends-since, ends-eq, stopped-eq, stopped-bind, stopped-close, agree-refl, given-value, given-again, given-charged, applied-as, sinks-after, decide-true, decide-false, decide-none}
 
 bind-value : (u : Out Obj) → u ≡ bind u (λ y m. value y m)
@@ -114,12 +114,12 @@ chain-end z c = record {
 pub ask-stop : {F C W C₁ W₁ : List ℕ} {top h a : ℕ} {v : Val} {m n : Meter} {r : Ended} → Applied F C W top h v m r C₁ W₁ → r ≡ Stop a n → Questioned F C W top h v m (AskStop a n) C₁ W₁
 ask-stop a e = record { falls = tt; means = λ S k p x at gv. says-stop (λ onT onF. stopped-bind (λ b m₁. decide b m₁ onT onF) (gave-stop (applied-as e a .means S k p x at gv))) }
 
-pub ask-yes : {F C W C₁ W₁ : List ℕ} {top h b : ℕ} {v y : Val} {m n : Meter} {r : Ended} → Applied F C W top h v m r C₁ W₁ → r ≡ Done y n → Judged y b → b ≡ 1 → Questioned F C W top h v m (Yes n) C₁ W₁
+pub ask-yes : {F C W C₁ W₁ : List ℕ} {top h b : ℕ} {v y : Val} {m n : Meter} {r : Ended} → Applied F C W top h v m r C₁ W₁ → r ≡ Done y n → Judged y b → b ≡ 1 → Questioned F C W top h v m (Says 1 n) C₁ W₁
 ask-yes {C₁ = C₁} {n = n} a e jd t =
     let a′ = applied-as e a in
     record { falls = a′ .falls; means = λ S k p x at gv. let u = gave (a′ .means S k p x at gv) in says-yes u (jd .is-true t C₁ (free C₁ n) (u .obj) (u .made .rep)) }
 
-pub ask-no : {F C W C₁ W₁ : List ℕ} {top h b : ℕ} {v y : Val} {m n : Meter} {r : Ended} → Applied F C W top h v m r C₁ W₁ → r ≡ Done y n → Judged y b → b ≡ 0 → Questioned F C W top h v m (No n) C₁ W₁
+pub ask-no : {F C W C₁ W₁ : List ℕ} {top h b : ℕ} {v y : Val} {m n : Meter} {r : Ended} → Applied F C W top h v m r C₁ W₁ → r ≡ Done y n → Judged y b → b ≡ 0 → Questioned F C W top h v m (Says 0 n) C₁ W₁
 ask-no {C₁ = C₁} {n = n} a e jd t =
     let a′ = applied-as e a in
     record { falls = a′ .falls; means = λ S k p x at gv. let u = gave (a′ .means S k p x at gv) in says-no u (jd .is-false t C₁ (free C₁ n) (u .obj) (u .made .rep)) }
@@ -137,17 +137,11 @@ ask-none {C₁ = C₁} {n = n} a e jd d t =
 asked-as : {F C W C₁ W₁ : List ℕ} {top i : ℕ} {v : Val} {m : Meter} {r r′ : Asked} → r ≡ r′ → Questioned F C W top i v m r C₁ W₁ → Questioned F C W top i v m r′ C₁ W₁
 asked-as {F} {C} {W} {C₁} {W₁} {top} {i} {v} {m} e a = subst (λ r. Questioned F C W top i v m r C₁ W₁) e a
 
-pub yes-fell : {F C W C₁ W₁ : List ℕ} {top h : ℕ} {v : Val} {m k : Meter} {r : Asked} → Questioned F C W top h v m r C₁ W₁ → r ≡ Yes k → k .steps < m .steps
-yes-fell a e = asked-as e a .falls
+pub says-fell : {F C W C₁ W₁ : List ℕ} {top h b : ℕ} {v : Val} {m k : Meter} {r : Asked} → Questioned F C W top h v m r C₁ W₁ → r ≡ Says b k → k .steps < m .steps
+says-fell a e = asked-as e a .falls
 
-pub no-fell : {F C W C₁ W₁ : List ℕ} {top h : ℕ} {v : Val} {m k : Meter} {r : Asked} → Questioned F C W top h v m r C₁ W₁ → r ≡ No k → k .steps < m .steps
-no-fell a e = asked-as e a .falls
-
-pub below-yes : {F C W C₁ W₁ : List ℕ} {top h : ℕ} {v : Val} {m k : Meter} {r : Asked} (t : ℕ) → Questioned F C W top h v m r C₁ W₁ → r ≡ Yes k → 4 * m .steps + 3 ≡ t → 4 * k .steps + 1 < t
-below-yes t a e q = omega (arith, yes-fell a e)
-
-pub below-no : {F C W C₁ W₁ : List ℕ} {top h : ℕ} {v : Val} {m k : Meter} {r : Asked} (t : ℕ) → Questioned F C W top h v m r C₁ W₁ → r ≡ No k → 4 * m .steps + 3 ≡ t → 4 * k .steps + 1 < t
-below-no t a e q = omega (arith, no-fell a e)
+pub below-says : {F C W C₁ W₁ : List ℕ} {top h b : ℕ} {v : Val} {m k : Meter} {r : Asked} (t : ℕ) → Questioned F C W top h v m r C₁ W₁ → r ≡ Says b k → 4 * m .steps + 3 ≡ t → 4 * k .steps + 1 < t
+below-says t a e q = omega (arith, says-fell a e)
 
 -- what the question's outcome was
 pub record Said (C W : List ℕ) (top : ℕ) (m : Meter) (e : Out Obj) (t : Truth) (k : Meter) (C₁ W₁ : List ℕ) : Type 0 where
@@ -155,21 +149,23 @@ pub record Said (C W : List ℕ) (top : ℕ) (m : Meter) (e : Out Obj) (t : Trut
   pub done : Finished C W top m e val k C₁ W₁
   pub says : truthOf (done .obj) ≡ t
 
-said-yes : {C W C₁ W₁ : List ℕ} {top : ℕ} {m k : Meter} {e : Out Obj} → Answers C W top m e C₁ W₁ (Yes k) → Said C W top m e isT k C₁ W₁
-said-yes (says-yes {v = v} u t) = record { val = v; done = u; says = t }
+said-yes : {C W C₁ W₁ : List ℕ} {top b : ℕ} {m k : Meter} {e : Out Obj} → (b ≡ 0 → ⊥) → Answers C W top m e C₁ W₁ (Says b k) → Said C W top m e isT k C₁ W₁
+said-yes z (says-yes {v = v} u t) = record { val = v; done = u; says = t }
+said-yes z (says-no u t) = absurd (z refl)
 
-said-no : {C W C₁ W₁ : List ℕ} {top : ℕ} {m k : Meter} {e : Out Obj} → Answers C W top m e C₁ W₁ (No k) → Said C W top m e isF k C₁ W₁
-said-no (says-no {v = v} u t) = record { val = v; done = u; says = t }
+said-no : {C W C₁ W₁ : List ℕ} {top b : ℕ} {m k : Meter} {e : Out Obj} → b ≡ 0 → Answers C W top m e C₁ W₁ (Says b k) → Said C W top m e isF k C₁ W₁
+said-no z (says-no {v = v} u t) = record { val = v; done = u; says = t }
+said-no z (says-yes u t) = absurd (omega arith)
 
 said-stop : {C W C₁ W₁ : List ℕ} {top a : ℕ} {m k : Meter} {e : Out Obj} → Answers C W top m e C₁ W₁ (AskStop a k) → (onT onF : Meter → Out Obj) → Stopped (bind e (λ b m₁. decide b m₁ onT onF)) a k
 said-stop (says-stop s) = s
 
 -- the three ways that a question goes
-pub on-yes : {F C W C₁ W₁ : List ℕ} {top h : ℕ} {v : Val} {m n : Meter} {r : Asked} {p : Form} {x : Obj} (S : Setting) (k : ℕ) → Questioned F C W top h v m r C₁ W₁ → r ≡ Yes n → At F S h p → Given F S k C W m v x → Said C W top m (by S k p x m) isT n C₁ W₁
-on-yes {p = p} {x} S k a e at gv = said-yes (asked-as e a .means S k p x at gv)
+pub on-yes : {F C W C₁ W₁ : List ℕ} {top h b : ℕ} {v : Val} {m n : Meter} {r : Asked} {p : Form} {x : Obj} (S : Setting) (k : ℕ) → Questioned F C W top h v m r C₁ W₁ → r ≡ Says b n → (b ≡ 0 → ⊥) → At F S h p → Given F S k C W m v x → Said C W top m (by S k p x m) isT n C₁ W₁
+on-yes {p = p} {x} S k a e z at gv = said-yes z (asked-as e a .means S k p x at gv)
 
-pub on-no : {F C W C₁ W₁ : List ℕ} {top h : ℕ} {v : Val} {m n : Meter} {r : Asked} {p : Form} {x : Obj} (S : Setting) (k : ℕ) → Questioned F C W top h v m r C₁ W₁ → r ≡ No n → At F S h p → Given F S k C W m v x → Said C W top m (by S k p x m) isF n C₁ W₁
-on-no {p = p} {x} S k a e at gv = said-no (asked-as e a .means S k p x at gv)
+pub on-no : {F C W C₁ W₁ : List ℕ} {top h b : ℕ} {v : Val} {m n : Meter} {r : Asked} {p : Form} {x : Obj} (S : Setting) (k : ℕ) → Questioned F C W top h v m r C₁ W₁ → r ≡ Says b n → b ≡ 0 → At F S h p → Given F S k C W m v x → Said C W top m (by S k p x m) isF n C₁ W₁
+on-no {p = p} {x} S k a e z at gv = said-no z (asked-as e a .means S k p x at gv)
 
 pub on-stop : {F C W C₁ W₁ : List ℕ} {top h a : ℕ} {v : Val} {m n : Meter} {r : Asked} {p : Form} {x : Obj} (S : Setting) (k : ℕ) → Questioned F C W top h v m r C₁ W₁ → r ≡ AskStop a n → At F S h p → Given F S k C W m v x → (onT onF : Meter → Out Obj) → Stopped (bind (by S k p x m) (λ b m₁. decide b m₁ onT onF)) a n
 on-stop {p = p} {x} S k a e at gv = said-stop (asked-as e a .means S k p x at gv)
@@ -184,21 +180,27 @@ decided-no {n = n} onT onF u = ap (λ w. bind w (λ b m₁. decide b m₁ onT on
 pub cond-stop : {F C W C₁ W₁ : List ℕ} {top h a : ℕ} {v : Val} {m n : Meter} {r : Asked} → Questioned F C W top h v m r C₁ W₁ → r ≡ AskStop a n → Chosen F C W top h v m (Stop a n) C₁ W₁
 cond-stop a e = record { sinks = tt; means = λ S k p f g x at ft gt gv. ends-stop (on-stop S k a e at gv (by S k f x) (by S k g x)) }
 
-pub cond-true : {F C W C₁ W₁ C₂ W₂ : List ℕ} {top h j : ℕ} {v : Val} {m n : Meter} {r : Asked} {r₂ : Ended} → Questioned F C W top h v m r C₁ W₁ → r ≡ Yes n → j ≡ linkAt F h → Applied F C₁ W₁ top j v n r₂ C₂ W₂ → Chosen F C W top h v m r₂ C₂ W₂
-cond-true {m = m} {n} {r₂ = r₂} a e z b = record {
-  sinks = sinks-after r₂ m n (b .falls) (yes-fell a e);
+cond-true : {F C W C₁ W₁ C₂ W₂ : List ℕ} {top h b j : ℕ} {v : Val} {m n : Meter} {r : Asked} {r₂ : Ended} → Questioned F C W top h v m r C₁ W₁ → r ≡ Says b n → (b ≡ 0 → ⊥) → j ≡ linkAt F h → Applied F C₁ W₁ top j v n r₂ C₂ W₂ → Chosen F C W top h v m r₂ C₂ W₂
+cond-true {m = m} {n} {r₂ = r₂} a e y z b = record {
+  sinks = sinks-after r₂ m n (b .falls) (says-fell a e);
   means = λ S k p f g x at ft gt gv.
-      let u = on-yes S k a e at gv in
-      ends-eq (decided-yes (by S k f x) (by S k g x) u) (ends-since (since (u .done)) (b .means S k f x (rw z ft) (given-again gv (yes-fell a e) (u .done))));
+      let u = on-yes S k a e y at gv in
+      ends-eq (decided-yes (by S k f x) (by S k g x) u) (ends-since (since (u .done)) (b .means S k f x (rw z ft) (given-again gv (says-fell a e) (u .done))));
 }
 
-pub cond-false : {F C W C₁ W₁ C₂ W₂ : List ℕ} {top h j i : ℕ} {v : Val} {m n : Meter} {r : Asked} {r₂ : Ended} → Questioned F C W top h v m r C₁ W₁ → r ≡ No n → j ≡ linkAt F h → i ≡ linkAt F j → Applied F C₁ W₁ top i v n r₂ C₂ W₂ → Chosen F C W top h v m r₂ C₂ W₂
-cond-false {m = m} {n} {r₂ = r₂} a e z z₂ b = record {
-  sinks = sinks-after r₂ m n (b .falls) (no-fell a e);
+cond-false : {F C W C₁ W₁ C₂ W₂ : List ℕ} {top h b j : ℕ} {v : Val} {m n : Meter} {r : Asked} {r₂ : Ended} → Questioned F C W top h v m r C₁ W₁ → r ≡ Says b n → b ≡ 0 → j ≡ linkAt F (linkAt F h) → Applied F C₁ W₁ top j v n r₂ C₂ W₂ → Chosen F C W top h v m r₂ C₂ W₂
+cond-false {m = m} {n} {r₂ = r₂} a e y z b = record {
+  sinks = sinks-after r₂ m n (b .falls) (says-fell a e);
   means = λ S k p f g x at ft gt gv.
-      let u = on-no S k a e at gv in
-      ends-eq (decided-no (by S k f x) (by S k g x) u) (ends-since (since (u .done)) (b .means S k g x (rw (z₂, z) gt) (given-again gv (no-fell a e) (u .done))));
+      let u = on-no S k a e y at gv in
+      ends-eq (decided-no (by S k f x) (by S k g x) u) (ends-since (since (u .done)) (b .means S k g x (rw z gt) (given-again gv (says-fell a e) (u .done))));
 }
+
+pub cond-done : {F C W C₁ W₁ C₂ W₂ : List ℕ} {top h b j : ℕ} {v : Val} {m n : Meter} {r : Asked} {r₂ : Ended} → Questioned F C W top h v m r C₁ W₁ → r ≡ Says b n → Branch F h b j → Applied F C₁ W₁ top j v n r₂ C₂ W₂ → Chosen F C W top h v m r₂ C₂ W₂
+cond-done {b = zero} a e z y = cond-false a e refl (z .on-false refl) y
+cond-done {b = suc d} a e z y =
+    let o : suc d ≡ 0 → ⊥ = λ q. absurd (omega arith) in
+    cond-true a e o (z .on-true o) y
 
 -- ---- a name
 none-named : {F C : List ℕ} {n d : ℕ} {root : List ℕ → ℕ} {b : Option Form} (ev : Apply) (x : Obj) (m : Meter) → d ≡ 0 → DefAt F C n root d b → nameBy ev b x m ≡ bottom m

@@ -1,4 +1,4 @@
--- The kind of a record by the tests that the code makes, and its constant.
+-- The kind of a record by the tests that the code makes, its constant, and the form that a condition chooses.
 use Prim.Native.Nat.{ℕ, _+_, _*_, _%_, _≤_, _<_}
 use mathlib.Core.Path.{_≡_, refl, ap, ap₂, _∙_}
 use mathlib.Core.List.{List}
@@ -6,7 +6,8 @@ use lib.ListN.{getD}
 use borrow.Author.Tests.{lt-ltb, le-ltb}
 use Rattle.language.specs.declared.Val.{Val}
 use Rattle.tables.specs.Tables.{field}
-use Rattle.linker.specs.Linked.{grouped, kindAt, constantAt}
+use Rattle.linker.specs.Linked.{grouped, kindAt, linkAt, constantAt}
+use Rattle.evaluator.specs.Applying.{Branch}
 
 module _ (F : List ℕ) (i n : ℕ) (e : n ≡ getD F (i * 4) 0) where
   same : grouped (n % 32) ≡ kindAt F i
@@ -30,3 +31,9 @@ module _ (F : List ℕ) (i n : ℕ) (e : n ≡ getD F (i * 4) 0) where
 
 pub constant-is : (F : List ℕ) (i lo hi n : ℕ) → lo ≡ field F i 2 → hi ≡ field F i 3 → n ≡ getD F (i * 4) 0 → _≡_ {A = Val} (record { tag = n % 4; word = lo + 4294967296 * hi }) (constantAt F i)
 constant-is F i lo hi n e f g = rw (e, f, g)
+
+pub branch-true : {F : List ℕ} {h b j : ℕ} → j ≡ linkAt F h → (b ≡ 0 → ⊥) → Branch F h b j
+branch-true e z = record { on-true = λ y. e; on-false = λ y. absurd (z y) }
+
+pub branch-false : {F : List ℕ} {h b i j : ℕ} → i ≡ linkAt F h → j ≡ linkAt F i → b ≡ 0 → Branch F h b j
+branch-false {F} e q z = record { on-true = λ y. absurd (y z); on-false = λ y. q ∙ ap (linkAt F) e }

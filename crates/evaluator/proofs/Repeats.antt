@@ -20,11 +20,11 @@ use Rattle.language.specs.Charging.{stepCharge, onCharge}
 use Rattle.language.proofs.Charging.{step-asked}
 use Rattle.cells.specs.Cells.{Rep, Room, free}
 use Rattle.evaluator.specs.declared.waiting.Asked.{Asked}
-use Rattle.evaluator.specs.declared.waiting.Asked.the-variants.{Yes, No, Stop as AskStop}
+use Rattle.evaluator.specs.declared.waiting.Asked.the-variants.{Says, Stop as AskStop}
 use Rattle.linker.specs.Linked.{linkAt}
 use Rattle.evaluator.specs.Applying.{Setting, by, At, Given, Applied, Falls, Sinks, Repeated, Questioned}
 use Rattle.evaluator.proofs.Steps.{Since, since, since-refl, since-trans, gave, gave-stop, ends-eq, stopped-eq, stopped-bind, agree-refl, given-value, given-again, applied-as, fell-by}
-use Rattle.evaluator.proofs.Chains.{Said, yes-fell, no-fell, on-yes, on-no, on-stop, decided-yes, decided-no}
+use Rattle.evaluator.proofs.Chains.{Said, says-fell, on-yes, on-no, on-stop, decided-yes, decided-no}
 
 pub record RepeatNow (F : List ℕ) (S : Setting) (k : ℕ) (Cs Ws : List ℕ) (top : ℕ) (m : Meter) (p f : Form) (e : Out Obj) (C W : List ℕ) (v : Val) (n : Meter) : Type 0 where
   pub j : ℕ
@@ -71,54 +71,54 @@ repeat-stop {n = n} {n₁} c b e = record {
       ends-stop (stopped-eq (t .whole) (stop-turn (t .j) k S p f (t .x) n n₁ (t .low) (on-stop S k b e pa (t .given))));
 }
 
-pub repeat-done : {F Cs Ws C W C₁ W₁ : List ℕ} {top h : ℕ} {v₀ v : Val} {m n n₁ : Meter} {r : Asked} → Repeating F Cs Ws top h v₀ m C W v n → Questioned F C W top h v n r C₁ W₁ → r ≡ No n₁ → Repeated F Cs Ws top h v₀ m (Done v n₁) C₁ W₁
-repeat-done {v = v} {n = n} {n₁} c b e = record {
-  sinks = omega (arith, no-fell b e, c .sinks);
+pub repeat-done : {F Cs Ws C W C₁ W₁ : List ℕ} {top h z : ℕ} {v₀ v : Val} {m n n₁ : Meter} {r : Asked} → Repeating F Cs Ws top h v₀ m C W v n → Questioned F C W top h v n r C₁ W₁ → r ≡ Says z n₁ → z ≡ 0 → Repeated F Cs Ws top h v₀ m (Done v n₁) C₁ W₁
+repeat-done {v = v} {n = n} {n₁} c b e y = record {
+  sinks = omega (arith, says-fell b e, c .sinks);
   means = λ S k p f x pa fa g. let t = c .means S k p f x pa fa g in
-      let u = on-no S k b e pa (t .given) in
-      let w = turned (t .j) k S p f (t .x) n (t .low) (omega (arith, no-fell b e)) in
+      let u = on-no S k b e y pa (t .given) in
+      let w = turned (t .j) k S p f (t .x) n (t .low) (omega (arith, says-fell b e)) in
       let s = since-trans (t .since) (since (u .done)) in
-      let a = given-again (t .given) (no-fell b e) (u .done) in
+      let a = given-again (t .given) (says-fell b e) (u .done) in
       ends-done {v = v} {m′ = n₁} (record { obj = t .x; is = t .whole ∙ w .2 ∙ decided-no (onT S k (w .0) p f (t .x)) (λ m₂. value (t .x) m₂) u; made = record { rep = a .arg; same = s .same; room = a .room; fewer = s .fewer; long = s .long }; ring = a .ring; kept = s .kept; names = s .names });
 }
 
 -- the question said T, and then f
-module _ {F Cs Ws C W C₁ W₁ C₂ W₂ : List ℕ} {top h g : ℕ} {v₀ v : Val} {m n n₁ : Meter} {r : Asked} {r₂ : Ended} (q : g ≡ linkAt F h) (c : Repeating F Cs Ws top h v₀ m C W v n) (b : Questioned F C W top h v n r C₁ W₁) (e : r ≡ Yes n₁) (ap2 : Applied F C₁ W₁ top g v n₁ r₂ C₂ W₂) where
+module _ {F Cs Ws C W C₁ W₁ C₂ W₂ : List ℕ} {top h g z : ℕ} {v₀ v : Val} {m n n₁ : Meter} {r : Asked} {r₂ : Ended} (q : g ≡ linkAt F h) (c : Repeating F Cs Ws top h v₀ m C W v n) (b : Questioned F C W top h v n r C₁ W₁) (e : r ≡ Says z n₁) (y : z ≡ 0 → ⊥) (ap2 : Applied F C₁ W₁ top g v n₁ r₂ C₂ W₂) where
   pub repeat-stop-2 : {a : ℕ} {n₂ : Meter} → r₂ ≡ Stop a n₂ → Repeated F Cs Ws top h v₀ m (Stop a n₂) C₂ W₂
   repeat-stop-2 e2 =
       let d = applied-as e2 ap2 in
       record {
         sinks = tt;
         means = λ S k p f x pa fa gv. let t = c .means S k p f x pa fa gv in
-            let u = on-yes S k b e pa (t .given) in
-            let w = turned (t .j) k S p f (t .x) n (t .low) (omega (arith, yes-fell b e)) in
-            let s = gave-stop (d .means S k f (t .x) (rw q fa) (given-again (t .given) (yes-fell b e) (u .done))) in
+            let u = on-yes S k b e y pa (t .given) in
+            let w = turned (t .j) k S p f (t .x) n (t .low) (omega (arith, says-fell b e)) in
+            let s = gave-stop (d .means S k f (t .x) (rw q fa) (given-again (t .given) (says-fell b e) (u .done))) in
             ends-stop (stopped-eq (t .whole ∙ w .2 ∙ decided-yes (onT S k (w .0) p f (t .x)) (λ m₂. value (t .x) m₂) u) (stopped-bind (λ y m₃. whileBy (by S k) (w .0) p f y m₃) s));
       }
 
   pub repeat-less : {y₂ : Val} {n₂ : Meter} → r₂ ≡ Done y₂ n₂ → n₂ .steps < n .steps
-  repeat-less e2 = omega (arith, yes-fell b e, fell-by ap2 e2)
+  repeat-less e2 = omega (arith, says-fell b e, fell-by ap2 e2)
 
   pub repeat-next : {y₂ : Val} {n₂ : Meter} → r₂ ≡ Done y₂ n₂ → length C₁ ≡ length C → length C₂ ≡ length C₁ → Repeating F Cs Ws top h v₀ m C₂ W₂ y₂ n₂
   repeat-next {n₂ = n₂} e2 l1 l2 =
       let d = applied-as e2 ap2 in
       record {
-        sinks = omega (arith, yes-fell b e, d .falls, c .sinks);
+        sinks = omega (arith, says-fell b e, d .falls, c .sinks);
         longC = l2 ∙ l1 ∙ c .longC;
         means = λ S k p f x pa fa gv. let t = c .means S k p f x pa fa gv in
-            let u = on-yes S k b e pa (t .given) in
-            let w = turned (t .j) k S p f (t .x) n (t .low) (omega (arith, yes-fell b e)) in
-            let ga = given-again (t .given) (yes-fell b e) (u .done) in
+            let u = on-yes S k b e y pa (t .given) in
+            let w = turned (t .j) k S p f (t .x) n (t .low) (omega (arith, says-fell b e)) in
+            let ga = given-again (t .given) (says-fell b e) (u .done) in
             let s = gave (d .means S k f (t .x) (rw q fa) ga) in
             record {
               j = w .0;
               x = s .obj;
               given = given-value ga (d .falls) s;
               since = since-trans (t .since) (since-trans (since (u .done)) (since s));
-              low = omega (arith, w .1, yes-fell b e, d .falls);
+              low = omega (arith, w .1, says-fell b e, d .falls);
               whole = t .whole ∙ w .2 ∙ decided-yes (onT S k (w .0) p f (t .x)) (λ m₂. value (t .x) m₂) u ∙ ap (λ a. bind a (λ y m₃. whileBy (by S k) (w .0) p f y m₃)) (s .is);
             };
       }
 
-pub below-turn : {F Cs Ws C W C₁ W₁ : List ℕ} {top h : ℕ} {v₀ v : Val} {m n n₁ : Meter} {r : Asked} (t : ℕ) → Repeating F Cs Ws top h v₀ m C W v n → Questioned F C W top h v n r C₁ W₁ → r ≡ Yes n₁ → 4 * m .steps + 3 ≡ t → 4 * n₁ .steps + 1 < t
-below-turn t c b e q = omega (arith, yes-fell b e, c .sinks)
+pub below-turn : {F Cs Ws C W C₁ W₁ : List ℕ} {top h z : ℕ} {v₀ v : Val} {m n n₁ : Meter} {r : Asked} (t : ℕ) → Repeating F Cs Ws top h v₀ m C W v n → Questioned F C W top h v n r C₁ W₁ → r ≡ Says z n₁ → 4 * m .steps + 3 ≡ t → 4 * n₁ .steps + 1 < t
+below-turn t c b e q = omega (arith, says-fell b e, c .sinks)

@@ -20,7 +20,7 @@ use Rattle.primitives.specs.Ends.{Gives, Leaf}
 use Rattle.primitives.specs.Leaves.{Coded}
 use Rattle.tables.specs.Tables.{field}
 use Rattle.evaluator.specs.declared.waiting.Asked.{Asked}
-use Rattle.evaluator.specs.declared.waiting.Asked.the-variants.{Yes, No, Stop as AskStop}
+use Rattle.evaluator.specs.declared.waiting.Asked.the-variants.{Says, Stop as AskStop}
 use Rattle.linker.specs.Linked.{FormAt, PartsAt, UpTo, DefAt, linkAt, constantAt}
 use Rattle.evaluator.specs.Ring.{Finished, Stopped, Ends}
 
@@ -110,20 +110,24 @@ pub record Bound (F C W : List ℕ) (top g : ℕ) (a v : Val) (m : Meter) (r : E
   pub means : (S : Setting) (k : ℕ) (f : Form) (y x : Obj) → At F S g f → Rep (S .cells) (S .few) a y → Given F S k C W m v x → Ends C W top m (onPairOf (by S k) f y x m) C′ W′ r
 
 abbrev pub Lessens : Asked → Meter → Type 0
-Lessens (Yes k) m = k .steps < m .steps
-Lessens (No k) m = k .steps < m .steps
+Lessens (Says b k) m = k .steps < m .steps
 Lessens (AskStop n k) m = Unit {0}
 
 -- what a question says, where e is the outcome of its application
 pub data Answers (C W : List ℕ) (top : ℕ) (m : Meter) (e : Out Obj) (C′ W′ : List ℕ) : Asked → Type 0 where
-  says-yes : {v : Val} {k : Meter} (u : Finished C W top m e v k C′ W′) → truthOf (u .obj) ≡ isT → Answers C W top m e C′ W′ (Yes k)
-  says-no : {v : Val} {k : Meter} (u : Finished C W top m e v k C′ W′) → truthOf (u .obj) ≡ isF → Answers C W top m e C′ W′ (No k)
+  says-yes : {v : Val} {k : Meter} (u : Finished C W top m e v k C′ W′) → truthOf (u .obj) ≡ isT → Answers C W top m e C′ W′ (Says 1 k)
+  says-no : {v : Val} {k : Meter} (u : Finished C W top m e v k C′ W′) → truthOf (u .obj) ≡ isF → Answers C W top m e C′ W′ (Says 0 k)
   says-stop : {n : ℕ} {k : Meter} → ((onT onF : Meter → Out Obj) → Stopped (bind e (λ b m₁. decide b m₁ onT onF)) n k) → Answers C W top m e C′ W′ (AskStop n k)
 
 -- the question at h
 pub record Questioned (F C W : List ℕ) (top h : ℕ) (v : Val) (m : Meter) (r : Asked) (C′ W′ : List ℕ) : Type 0 where
   pub falls : Lessens r m
   pub means : (S : Setting) (k : ℕ) (p : Form) (x : Obj) → At F S h p → Given F S k C W m v x → Answers C W top m (by S k p x m) C′ W′ r
+
+-- which form a condition chooses, whose question is at h and says b
+pub record Branch (F : List ℕ) (h b j : ℕ) : Type 0 where
+  pub on-true : (b ≡ 0 → ⊥) → j ≡ linkAt F h
+  pub on-false : b ≡ 0 → j ≡ linkAt F (linkAt F h)
 
 -- a condition whose question is at h, then its two forms along the links
 pub record Chosen (F C W : List ℕ) (top h : ℕ) (v : Val) (m : Meter) (r : Ended) (C′ W′ : List ℕ) : Type 0 where

@@ -3,6 +3,7 @@
 ghost use Rattle.evaluator.specs.Applying.{Applied, Chained, Slotted, Built, Mapped, Folded, Inserted, Questioned, Repeated, Bound, Chosen, Named};
 use crate::alone::leaf;
 use crate::records::arity;
+use crate::records::branch;
 use crate::records::constant;
 use crate::records::inner;
 use crate::records::kind;
@@ -266,10 +267,10 @@ pub fn ask(
         Ended::Done(y, k) => {
             let b = verdict(y);
             if b == 1 {
-                return Asked::Yes(k);
+                return Asked::Says(1, k);
             }
             if b == 0 {
-                return Asked::No(k);
+                return Asked::Says(0, k);
             }
             Asked::Stop(21, k)
         }
@@ -294,14 +295,18 @@ pub fn repeat(
     loop {
         match ask(f, c, w, top, h, x, n) {
             Asked::Stop(a, k) => return Ended::Stop(a, k),
-            Asked::No(k) => return Ended::Done(x, k),
-            Asked::Yes(k) => match apply(f, c, w, top, g, x, k) {
-                Ended::Stop(a, l) => return Ended::Stop(a, l),
-                Ended::Done(z, l) => {
-                    x = z;
-                    n = l;
+            Asked::Says(b, k) => {
+                if b == 0 {
+                    return Ended::Done(x, k);
                 }
-            },
+                match apply(f, c, w, top, g, x, k) {
+                    Ended::Stop(a, l) => return Ended::Stop(a, l),
+                    Ended::Done(z, l) => {
+                        x = z;
+                        n = l;
+                    }
+                }
+            }
         }
     }
 }
@@ -341,11 +346,9 @@ pub fn condition(
 ) -> Ended
     ensures { λ r. ⌜ Chosen (now (f .entry)) (now (c .entry)) (now (w .entry)) top h v m r (now (c .exit)) (now (w .exit)) ⌝ }
 {
-    let j = next(f, h);
     match ask(f, c, w, top, h, v, m) {
         Asked::Stop(a, k) => Ended::Stop(a, k),
-        Asked::Yes(k) => apply(f, c, w, top, j, v, k),
-        Asked::No(k) => apply(f, c, w, top, next(f, j), v, k),
+        Asked::Says(b, k) => apply(f, c, w, top, branch(f, h, b), v, k),
     }
 }
 

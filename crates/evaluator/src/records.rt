@@ -2,6 +2,7 @@
 ghost use mathlib.Core.Path.{_≡_};
 ghost use Prim.Native.Nat.{_+_, _%_};
 ghost use Rattle.tables.specs.Tables.{field};
+ghost use Rattle.evaluator.specs.Applying.{Branch};
 ghost use Rattle.linker.specs.Linked.{kindAt, linkAt, constantAt};
 use language::Val;
 
@@ -24,6 +25,15 @@ pub fn next(f: &[u32; 8192], i: u32) -> u32
     ensures { λ r. ⌜ r ≡ linkAt (now (f .entry)) i ⌝ }
 {
     tables::at(f, i as usize * 4) / 32
+}
+
+// The record of the form that a condition chooses, whose question is at h and says b: behind the question the first for T, the
+// second for F.
+pub fn branch(f: &[u32; 8192], h: u32, b: u32) -> u32
+    ensures { λ r. ⌜ Branch (now (f .entry)) h b r ⌝ }
+{
+    let j = next(f, h);
+    if b == 0 { next(f, j) } else { j }
 }
 
 // The record of the first part of the form at i.

@@ -7,10 +7,9 @@ use language::Meter;
 use language::Val;
 use primitives::Ended;
 
-// What a question says: T, F, or that the run stops, with what is left of the budgets.
+// What a question says, 1 for T and 0 for F, or that the run stops; and what is left of the budgets.
 pub enum Asked {
-    Yes(Meter),
-    No(Meter),
+    Says(u32, Meter),
     Stop(u32, Meter),
 }
 

@@ -2,7 +2,7 @@
 use Prim.Native.Nat.{_+_, _*_, _-_, _≤_}
 use mathlib.Core.Path.{_∙_}
 use Rattle.evaluator.proofs.Steps.{below-step, applied-as, below-open, below-taken, below-applied, fell-by}
-use Rattle.evaluator.proofs.Chains.{Chaining, chain-start, chain-next, chain-stop, chain-end, ask-stop, ask-yes, ask-no, ask-none, below-yes, below-no, cond-stop, cond-true, cond-false, name-none, name-full, name-stop, name-done}
+use Rattle.evaluator.proofs.Chains.{Chaining, chain-start, chain-next, chain-stop, chain-end, ask-stop, ask-yes, ask-no, ask-none, below-says, cond-stop, cond-done, name-none, name-full, name-stop, name-done}
 use Rattle.evaluator.proofs.Builds.{slot-done, slot-stop, slot-fell, Building, build-start, build-turn, build-halt, build-done, Mapping, map-atom, map-start, map-turn, map-halt, map-done}
 use Rattle.evaluator.proofs.Repeats.{Repeating, repeat-start, repeat-stop, repeat-done, repeat-stop-2, repeat-less, repeat-next, below-turn}
 use Rattle.evaluator.proofs.Pairs.{bu-full, bu-done, fold-full, fold-done, fold-fell, Inserting, insert-atom, insert-none, insert-start, insert-turn, insert-halt, insert-end}
@@ -60,6 +60,7 @@ use Rattle.cells.proofs.size.Reads as size-reads
 use Rattle.cells.proofs.tail.Reads as tail-reads
 use Rattle.evaluator.proofs.alone.leaf.Reads as leaf-reads
 use Rattle.evaluator.proofs.records.arity.Reads as arity-reads
+use Rattle.evaluator.proofs.records.branch.Reads as branch-reads
 use Rattle.evaluator.proofs.records.constant.Reads as constant-reads
 use Rattle.evaluator.proofs.records.inner.Reads as inner-reads
 use Rattle.evaluator.proofs.records.kind.Reads as kind-reads
@@ -211,7 +212,7 @@ abbrev chain-calls : ℕ → chain-lts.Claims
 chain-calls t = (apply-below t, apply.Post, next-reads.Asked, next-reads.Learnt)
 
 abbrev condition-calls : ℕ → condition-lts.Claims
-condition-calls t = (next-reads.Asked, next-reads.Learnt, ask-below t, ask.Post, apply-below t, apply.Post)
+condition-calls t = (ask-below t, ask.Post, branch-reads.Asked, branch-reads.Learnt, apply-below t, apply.Post)
 
 abbrev construct-calls : ℕ → construct-lts.Claims
 construct-calls t = (place-reads.Asked, place-reads.Learnt, slot-below t, slot.Post, next-reads.Asked, next-reads.Learnt, collect-reads.Asked, collect-reads.Learnt)
@@ -249,19 +250,19 @@ apply-enum-known-y t c = search needs
 apply-enum-known-a : (t : ℕ) → apply-lts.Need-enum-known-a (apply-calls t) (apply-at t) apply.Post
 apply-enum-known-a t c = search needs
 
--- pub fn apply(f: &[u32; 8192], c: &mut [u32], w: &mut [u32; 16384], top: u32, i: u32, v: Val, m: Meter) -> Ended
+-- pub fn apply(
 apply-same-length : (t : ℕ) → apply-lts.Need-same-length (apply-calls t) (apply-at t) apply.Post
 apply-same-length t c = search needs
 
--- pub fn apply(f: &[u32; 8192], c: &mut [u32], w: &mut [u32; 16384], top: u32, i: u32, v: Val, m: Meter) -> Ended
+-- pub fn apply(
 apply-returns : (t : ℕ) → apply-lts.Need-returns (apply-calls t) (apply-at t) apply.Post
 apply-returns t c = search applied-as
 
--- pub fn apply(f: &[u32; 8192], c: &mut [u32], w: &mut [u32; 16384], top: u32, i: u32, v: Val, m: Meter) -> Ended
+-- pub fn apply(
 apply-same-length-2 : (t : ℕ) → apply-lts.Need-same-length-2 (apply-calls t) (apply-at t) apply.Post
 apply-same-length-2 t c = search needs
 
--- pub fn apply(f: &[u32; 8192], c: &mut [u32], w: &mut [u32; 16384], top: u32, i: u32, v: Val, m: Meter) -> Ended
+-- pub fn apply(
 apply-returns-2 : (t : ℕ) → apply-lts.Need-returns-2 (apply-calls t) (apply-at t) apply.Post
 apply-returns-2 t c = search applied-as
 
@@ -281,35 +282,35 @@ ask-enum-known-y t c = search needs
 ask-verdict-requires : (t : ℕ) → ask-lts.Need-verdict-requires (ask-calls t) (ask-at t) ask.Post
 ask-verdict-requires t c κs = search needs
 
--- return Asked::Yes(k);
+-- return Asked::Says(1, k);
 ask-same-length : (t : ℕ) → ask-lts.Need-same-length (ask-calls t) (ask-at t) ask.Post
 ask-same-length t c = search needs
 
--- return Asked::Yes(k);
+-- return Asked::Says(1, k);
 ask-returns : (t : ℕ) → ask-lts.Need-returns (ask-calls t) (ask-at t) ask.Post
 ask-returns t c = search ask-yes
 
--- return Asked::No(k);
+-- return Asked::Says(0, k);
 ask-same-length-2 : (t : ℕ) → ask-lts.Need-same-length-2 (ask-calls t) (ask-at t) ask.Post
 ask-same-length-2 t c = search needs
 
--- return Asked::No(k);
+-- return Asked::Says(0, k);
 ask-returns-2 : (t : ℕ) → ask-lts.Need-returns-2 (ask-calls t) (ask-at t) ask.Post
 ask-returns-2 t c = search ask-no
 
--- pub fn ask(f: &[u32; 8192], c: &mut [u32], w: &mut [u32; 16384], top: u32, h: u32, v: Val, m: Meter) -> Asked
+-- pub fn ask(
 ask-same-length-3 : (t : ℕ) → ask-lts.Need-same-length-3 (ask-calls t) (ask-at t) ask.Post
 ask-same-length-3 t c = search needs
 
--- pub fn ask(f: &[u32; 8192], c: &mut [u32], w: &mut [u32; 16384], top: u32, h: u32, v: Val, m: Meter) -> Asked
+-- pub fn ask(
 ask-returns-3 : (t : ℕ) → ask-lts.Need-returns-3 (ask-calls t) (ask-at t) ask.Post
 ask-returns-3 t c = search ask-stop
 
--- pub fn ask(f: &[u32; 8192], c: &mut [u32], w: &mut [u32; 16384], top: u32, h: u32, v: Val, m: Meter) -> Asked
+-- pub fn ask(
 ask-same-length-4 : (t : ℕ) → ask-lts.Need-same-length-4 (ask-calls t) (ask-at t) ask.Post
 ask-same-length-4 t c = search needs
 
--- pub fn ask(f: &[u32; 8192], c: &mut [u32], w: &mut [u32; 16384], top: u32, h: u32, v: Val, m: Meter) -> Asked
+-- pub fn ask(
 ask-returns-4 : (t : ℕ) → ask-lts.Need-returns-4 (ask-calls t) (ask-at t) ask.Post
 ask-returns-4 t c = search ask-none
 
@@ -403,10 +404,6 @@ chain-same-length-2 t c = search needs
 chain-returns-2 : (t : ℕ) → chain-lts.Need-returns-2 (chain-calls t) (chain-at t) chain.Post chain-Inv-loop chain-μ-loop
 chain-returns-2 t c = search chain-end
 
--- let j = next(f, h);
-condition-next-requires : (t : ℕ) → condition-lts.Need-next-requires (condition-calls t) (condition-at t) condition.Post
-condition-next-requires t c κs = search needs
-
 -- match ask(f, c, w, top, h, v, m) {
 condition-ask-requires : (t : ℕ) → condition-lts.Need-ask-requires (condition-calls t) (condition-at t) condition.Post
 condition-ask-requires t c κs = search needs
@@ -415,25 +412,17 @@ condition-ask-requires t c κs = search needs
 condition-enum-known-a : (t : ℕ) → condition-lts.Need-enum-known-a (condition-calls t) (condition-at t) condition.Post
 condition-enum-known-a t c = search needs
 
--- Asked::Yes(k) => apply(f, c, w, top, j, v, k),
-condition-enum-known-k : (t : ℕ) → condition-lts.Need-enum-known-k (condition-calls t) (condition-at t) condition.Post
-condition-enum-known-k t c = search needs
+-- Asked::Says(b, k) => apply(f, c, w, top, branch(f, h, b), v, k),
+condition-enum-known-b : (t : ℕ) → condition-lts.Need-enum-known-b (condition-calls t) (condition-at t) condition.Post
+condition-enum-known-b t c = search needs
 
--- Asked::Yes(k) => apply(f, c, w, top, j, v, k),
+-- Asked::Says(b, k) => apply(f, c, w, top, branch(f, h, b), v, k),
+condition-branch-requires : (t : ℕ) → condition-lts.Need-branch-requires (condition-calls t) (condition-at t) condition.Post
+condition-branch-requires t c κs = search needs
+
+-- Asked::Says(b, k) => apply(f, c, w, top, branch(f, h, b), v, k),
 condition-apply-requires : (t : ℕ) → condition-lts.Need-apply-requires (condition-calls t) (condition-at t) condition.Post
-condition-apply-requires t c κs = search (below-yes, needs)
-
--- Asked::No(k) => apply(f, c, w, top, next(f, j), v, k),
-condition-enum-known-k-2 : (t : ℕ) → condition-lts.Need-enum-known-k-2 (condition-calls t) (condition-at t) condition.Post
-condition-enum-known-k-2 t c = search needs
-
--- Asked::No(k) => apply(f, c, w, top, next(f, j), v, k),
-condition-next-requires-2 : (t : ℕ) → condition-lts.Need-next-requires-2 (condition-calls t) (condition-at t) condition.Post
-condition-next-requires-2 t c κs = search needs
-
--- Asked::No(k) => apply(f, c, w, top, next(f, j), v, k),
-condition-apply-requires-2 : (t : ℕ) → condition-lts.Need-apply-requires-2 (condition-calls t) (condition-at t) condition.Post
-condition-apply-requires-2 t c κs = search (below-no, needs)
+condition-apply-requires t c κs = search (below-says, needs)
 
 -- pub fn condition(
 condition-same-length : (t : ℕ) → condition-lts.Need-same-length (condition-calls t) (condition-at t) condition.Post
@@ -449,15 +438,7 @@ condition-same-length-2 t c = search needs
 
 -- pub fn condition(
 condition-returns-2 : (t : ℕ) → condition-lts.Need-returns-2 (condition-calls t) (condition-at t) condition.Post
-condition-returns-2 t c = search cond-true
-
--- pub fn condition(
-condition-same-length-3 : (t : ℕ) → condition-lts.Need-same-length-3 (condition-calls t) (condition-at t) condition.Post
-condition-same-length-3 t c = search needs
-
--- pub fn condition(
-condition-returns-3 : (t : ℕ) → condition-lts.Need-returns-3 (condition-calls t) (condition-at t) condition.Post
-condition-returns-3 t c = search cond-false
+condition-returns-2 t c = search cond-done
 
 abbrev construct-Inv-loop : construct-lts.InvT-loop
 construct-Inv-loop f c₀ w₀ top h many v j₀ q₀ n₀ c w j q n = Building f c₀ w₀ top h many v n₀ c w j q n
@@ -587,11 +568,11 @@ each-loop-again t c = search map-turn
 each-collect-requires : (t : ℕ) → each-lts.Need-collect-requires (each-calls t) (each-at t) each.Post each-Inv-loop each-μ-loop
 each-collect-requires t c κs = search needs
 
--- pub fn each(f: &[u32; 8192], c: &mut [u32], w: &mut [u32; 16384], top: u32, g: u32, v: Val, m: Meter) -> Ended
+-- pub fn each(
 each-same-length-2 : (t : ℕ) → each-lts.Need-same-length-2 (each-calls t) (each-at t) each.Post each-Inv-loop each-μ-loop
 each-same-length-2 t c = search needs
 
--- pub fn each(f: &[u32; 8192], c: &mut [u32], w: &mut [u32; 16384], top: u32, g: u32, v: Val, m: Meter) -> Ended
+-- pub fn each(
 each-returns-3 : (t : ℕ) → each-lts.Need-returns-3 (each-calls t) (each-at t) each.Post each-Inv-loop each-μ-loop
 each-returns-3 t c = search map-done
 
@@ -701,11 +682,11 @@ insert-same-length t c = search needs
 insert-returns-3 : (t : ℕ) → insert-lts.Need-returns-3 (insert-calls t) (insert-at t) insert.Post insert-Inv-loop insert-μ-loop
 insert-returns-3 t c = search insert-halt
 
--- pub fn insert(f: &[u32; 8192], c: &mut [u32], w: &mut [u32; 16384], top: u32, g: u32, v: Val, m: Meter) -> Ended
+-- pub fn insert(
 insert-same-length-2 : (t : ℕ) → insert-lts.Need-same-length-2 (insert-calls t) (insert-at t) insert.Post insert-Inv-loop insert-μ-loop
 insert-same-length-2 t c = search needs
 
--- pub fn insert(f: &[u32; 8192], c: &mut [u32], w: &mut [u32; 16384], top: u32, g: u32, v: Val, m: Meter) -> Ended
+-- pub fn insert(
 insert-returns-4 : (t : ℕ) → insert-lts.Need-returns-4 (insert-calls t) (insert-at t) insert.Post insert-Inv-loop insert-μ-loop
 insert-returns-4 t c = search insert-end
 
@@ -745,23 +726,23 @@ name-enum-known-y t c = search needs
 name-close-name-requires : (t : ℕ) → name-lts.Need-close-name-requires (name-calls t) (name-at t) name.Post
 name-close-name-requires t c κs = search needs
 
--- pub fn name(f: &[u32; 8192], c: &mut [u32], w: &mut [u32; 16384], top: u32, d: u32, v: Val, m: Meter) -> Ended
+-- pub fn name(
 name-returns-2 : (t : ℕ) → name-lts.Need-returns-2 (name-calls t) (name-at t) name.Post
 name-returns-2 t c = search name-full
 
--- pub fn name(f: &[u32; 8192], c: &mut [u32], w: &mut [u32; 16384], top: u32, d: u32, v: Val, m: Meter) -> Ended
+-- pub fn name(
 name-same-length : (t : ℕ) → name-lts.Need-same-length (name-calls t) (name-at t) name.Post
 name-same-length t c = search needs
 
--- pub fn name(f: &[u32; 8192], c: &mut [u32], w: &mut [u32; 16384], top: u32, d: u32, v: Val, m: Meter) -> Ended
+-- pub fn name(
 name-returns-3 : (t : ℕ) → name-lts.Need-returns-3 (name-calls t) (name-at t) name.Post
 name-returns-3 t c = search name-stop
 
--- pub fn name(f: &[u32; 8192], c: &mut [u32], w: &mut [u32; 16384], top: u32, d: u32, v: Val, m: Meter) -> Ended
+-- pub fn name(
 name-same-length-2 : (t : ℕ) → name-lts.Need-same-length-2 (name-calls t) (name-at t) name.Post
 name-same-length-2 t c = search needs
 
--- pub fn name(f: &[u32; 8192], c: &mut [u32], w: &mut [u32; 16384], top: u32, d: u32, v: Val, m: Meter) -> Ended
+-- pub fn name(
 name-returns-4 : (t : ℕ) → name-lts.Need-returns-4 (name-calls t) (name-at t) name.Post
 name-returns-4 t c = let g = c .before .before .before .before .before .before .before .before .before .before .before .before .before .before .before .good .1 .1 .1 .1 .1 .1 .0 in let l : c .before .before .before .before .before .before .before .before .before .before .before .before .before .before .before .args .m .names < 4294967296 = omega (arith, g) in search name-done
 
@@ -795,23 +776,19 @@ repeat-same-length t c = search needs
 repeat-returns : (t : ℕ) → repeat-lts.Need-returns (repeat-calls t) (repeat-at t) repeat.Post repeat-Inv-loop repeat-μ-loop
 repeat-returns t c = search repeat-stop
 
--- Asked::No(k) => return Ended::Done(x, k),
-repeat-enum-known-k : (t : ℕ) → repeat-lts.Need-enum-known-k (repeat-calls t) (repeat-at t) repeat.Post repeat-Inv-loop repeat-μ-loop
-repeat-enum-known-k t c = search needs
+-- Asked::Says(b, k) => {
+repeat-enum-known-b : (t : ℕ) → repeat-lts.Need-enum-known-b (repeat-calls t) (repeat-at t) repeat.Post repeat-Inv-loop repeat-μ-loop
+repeat-enum-known-b t c = search needs
 
--- Asked::No(k) => return Ended::Done(x, k),
+-- return Ended::Done(x, k);
 repeat-same-length-2 : (t : ℕ) → repeat-lts.Need-same-length-2 (repeat-calls t) (repeat-at t) repeat.Post repeat-Inv-loop repeat-μ-loop
 repeat-same-length-2 t c = search needs
 
--- Asked::No(k) => return Ended::Done(x, k),
+-- return Ended::Done(x, k);
 repeat-returns-2 : (t : ℕ) → repeat-lts.Need-returns-2 (repeat-calls t) (repeat-at t) repeat.Post repeat-Inv-loop repeat-μ-loop
 repeat-returns-2 t c = search repeat-done
 
--- Asked::Yes(k) => match apply(f, c, w, top, g, x, k) {
-repeat-enum-known-k-2 : (t : ℕ) → repeat-lts.Need-enum-known-k-2 (repeat-calls t) (repeat-at t) repeat.Post repeat-Inv-loop repeat-μ-loop
-repeat-enum-known-k-2 t c = search needs
-
--- Asked::Yes(k) => match apply(f, c, w, top, g, x, k) {
+-- match apply(f, c, w, top, g, x, k) {
 repeat-apply-requires : (t : ℕ) → repeat-lts.Need-apply-requires (repeat-calls t) (repeat-at t) repeat.Post repeat-Inv-loop repeat-μ-loop
 repeat-apply-requires t c κs = search (below-turn, needs)
 
@@ -855,19 +832,19 @@ slot-hold-requires t c κs = search needs
 slot-enum-known-a : (t : ℕ) → slot-lts.Need-enum-known-a (slot-calls t) (slot-at t) slot.Post
 slot-enum-known-a t c = search needs
 
--- pub fn slot(f: &[u32; 8192], c: &mut [u32], w: &mut [u32; 16384], top: u32, i: u32, v: Val, m: Meter) -> Ended
+-- pub fn slot(
 slot-same-length : (t : ℕ) → slot-lts.Need-same-length (slot-calls t) (slot-at t) slot.Post
 slot-same-length t c = search needs
 
--- pub fn slot(f: &[u32; 8192], c: &mut [u32], w: &mut [u32; 16384], top: u32, i: u32, v: Val, m: Meter) -> Ended
+-- pub fn slot(
 slot-returns : (t : ℕ) → slot-lts.Need-returns (slot-calls t) (slot-at t) slot.Post
 slot-returns t c = search slot-done
 
--- pub fn slot(f: &[u32; 8192], c: &mut [u32], w: &mut [u32; 16384], top: u32, i: u32, v: Val, m: Meter) -> Ended
+-- pub fn slot(
 slot-same-length-2 : (t : ℕ) → slot-lts.Need-same-length-2 (slot-calls t) (slot-at t) slot.Post
 slot-same-length-2 t c = search needs
 
--- pub fn slot(f: &[u32; 8192], c: &mut [u32], w: &mut [u32; 16384], top: u32, i: u32, v: Val, m: Meter) -> Ended
+-- pub fn slot(
 slot-returns-2 : (t : ℕ) → slot-lts.Need-returns-2 (slot-calls t) (slot-at t) slot.Post
 slot-returns-2 t c = search slot-stop
 
@@ -1105,20 +1082,15 @@ pub +apply+ask+bu+chain+condition+construct+each+fold+insert+name+repeat+slot+st
     (λ t. condition-lts.spec (condition-calls t)
     (condition-at t)
     condition.Post
-    (condition-next-requires t)
     (condition-ask-requires t)
     (condition-enum-known-a t)
-    (condition-enum-known-k t)
+    (condition-enum-known-b t)
+    (condition-branch-requires t)
     (condition-apply-requires t)
-    (condition-enum-known-k-2 t)
-    (condition-next-requires-2 t)
-    (condition-apply-requires-2 t)
     (condition-same-length t)
     (condition-returns t)
     (condition-same-length-2 t)
-    (condition-returns-2 t)
-    (condition-same-length-3 t)
-    (condition-returns-3 t))
+    (condition-returns-2 t))
     (λ t. construct-lts.spec (construct-calls t)
     (construct-at t)
     construct.Post
@@ -1223,10 +1195,9 @@ pub +apply+ask+bu+chain+condition+construct+each+fold+insert+name+repeat+slot+st
     (repeat-enum-known-a t)
     (repeat-same-length t)
     (repeat-returns t)
-    (repeat-enum-known-k t)
+    (repeat-enum-known-b t)
     (repeat-same-length-2 t)
     (repeat-returns-2 t)
-    (repeat-enum-known-k-2 t)
     (repeat-apply-requires t)
     (repeat-enum-known-a-2 t)
     (repeat-same-length-3 t)
