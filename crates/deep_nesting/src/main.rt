@@ -5,55 +5,17 @@ use language::Meter;
 use language::Val;
 use primitives::Ended;
 
-// Writes a record with these first three numbers.
-fn put(f: &mut [u32; 8192], i: u32, kind: u32, arity: u32, low: u32) {
-    tables::put_record(f, i as usize, kind, arity, low, 0);
-}
+mod bodies;
+mod objects;
 
-// Writes a chain of id and a form of this kind at b. The form holds `before` words with this code, and then what stands at b + 5.
-fn level(f: &mut [u32; 8192], kind: u32, before: u32, code: u32, b: u32)
-    requires { ⌜ kind < 32 ⌝ }
-    requires { ⌜ before < 3 ⌝ }
-    requires { ⌜ b < 160 ⌝ }
-{
-    let x = b + 4 - before;
-    put(f, b, 5, 2, x);
-    put(f, b + 1, 1, 0, 0);
-    put(f, b + 3, 1 + 32 * (b + 4), 0, code);
-    put(f, b + 4, 1 + 32 * (b + 5), 0, code);
-    put(f, x, kind + 32 * (b + 1), 1, 0);
-}
-
-// The body of a name: 32 levels, and at the end a chain of id and the name itself.
-fn body(kind: u32, before: u32, code: u32) -> [u32; 8192]
-    requires { ⌜ kind < 32 ⌝ }
-    requires { ⌜ before < 3 ⌝ }
-{
-    let mut f = [0; 8192];
-    let mut b: u32 = 0;
-    while b < 160 {
-        level(&mut f, kind, before, code, b);
-        b += 5;
-    }
-    put(&mut f, 160, 5, 2, 162);
-    put(&mut f, 161, 1, 0, 0);
-    put(&mut f, 162, 4 + 32 * 161, 1, 0);
-    f
-}
-
-// Runs such a body, and writes whether the names were spent.
-fn run(kind: u32, before: u32, code: u32)
-    requires { ⌜ kind < 32 ⌝ }
-    requires { ⌜ before < 3 ⌝ }
-{
-    let f = body(kind, before, code);
-    let mut c = [0; 16384];
+// Evaluates the name whose body stands in f, and writes whether the names were spent.
+fn run(f: &[u32; 8192], c: &mut [u32; 16384], v: Val, cells: u32) {
     let m = Meter {
         steps: 1000000,
         names: 256,
-        cells: 4096,
+        cells: cells,
     };
-    match evaluator::run::evaluate(&f, &mut c, 1, Val { tag: 0, word: 5 }, m) {
+    match evaluator::run::evaluate(f, c, 1, v, m) {
         Ended::Done(_, _) => report(20),
         Ended::Stop(n, _) => report(n),
     }
@@ -67,13 +29,31 @@ fn report(n: u32) {
     }
 }
 
-// A construction; a condition's question, its first form, its second; a while's question, its form. The word with the code 2
-// says T of an integer, the one with the code 3 says F.
+// Forms of one kind, on an integer.
+fn run_kind(kind: u32, before: u32, code: u32)
+    requires { ⌜ kind < 32 ⌝ }
+    requires { ⌜ before < 3 ⌝ }
+{
+    let f = bodies::body(kind, before, code);
+    let mut c = [0; 16384];
+    run(&f, &mut c, Val { tag: 0, word: 5 }, 4096);
+}
+
+// Constructions, and within them eq on a pair of one deep object.
+fn run_equality() {
+    let f = bodies::equality_body();
+    let mut c = objects::deep_pair();
+    run(&f, &mut c, cells::sequence(3501, 2), 594);
+}
+
+// A construction; a condition's question, its first form, its second; a while's question, its form; eq. The word with the code
+// 2 says T of an integer, the one with the code 3 says F.
 fn main() {
-    run(6, 0, 0);
-    run(9, 0, 0);
-    run(9, 1, 2);
-    run(9, 2, 3);
-    run(10, 0, 0);
-    run(10, 1, 2);
+    run_kind(6, 0, 0);
+    run_kind(9, 0, 0);
+    run_kind(9, 1, 2);
+    run_kind(9, 2, 3);
+    run_kind(10, 0, 0);
+    run_kind(10, 1, 2);
+    run_equality();
 }
