@@ -14,13 +14,12 @@ use Rattle.language.specs.Evaluation.{lookup}
 use Rattle.language.specs.Packing.{packed}
 use Rattle.language.specs.Reading.{Placed}
 use Rattle.tables.specs.Tables.{field}
-use Rattle.formtable.specs.Encoding.{lowOf, highOf, encodeDefinitions}
+use Rattle.formtable.specs.Encoding.{lowOf, highOf, programOf, encodeDefinitions}
 use Rattle.formtable.specs.Standing.{parts, bodies}
 use Rattle.linker.specs.Linked.{FormAt, DefAt, no-def, a-def}
 use Rattle.linker.specs.Roots.{named, rootFrom}
 use Rattle.linker.specs.Linking.{Tree, tree, tree-chain, Kids, no-kid, a-kid, Back, no-back, a-back}
 use Rattle.linker.proofs.Trees.{form-of, tree-small}
-use Rattle.machine.specs.Mains.{programOf}
 use Rattle.machine.proofs.Names.{name-test}
 
 -- ---- a form takes up as many records as it has forms
