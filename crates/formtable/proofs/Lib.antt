@@ -1,3 +1,4 @@
 pub mod Lengths
 pub mod Appended
 pub mod Stood
+pub mod Names

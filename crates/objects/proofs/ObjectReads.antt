@@ -31,7 +31,6 @@ use Rattle.objects.specs.declared.ObjectRead.{ObjectRead}
 use Rattle.objects.specs.declared.ObjectRead.the-variants as O
 use Rattle.objects.specs.declared.PlaceRead.{PlaceRead}
 use Rattle.objects.specs.declared.PlaceRead.the-variants as P
-use Rattle.objects.proofs.Symbols.{packed-is}
 
 -- a mark stands within the text
 pub inside : (s : List ℕ) (p b m : ℕ) → b ≡ byteAt s p → b ≡ m → 1 ≤ m → p + 1 ≤ length s
@@ -85,7 +84,7 @@ module _ (C : List ℕ) (c : ℕ) (x : Obj) (next : ℕ) {C₁ C₂ : List ℕ} 
 atom-val : (x : Obj) (c : ℕ) → marksOfObj x ≤ 0 → atomVal x ≡ valOf c x
 atom-val (int (pos k)) c h = refl
 atom-val (int (negsuc k)) c h = refl
-atom-val (symbol w) c h = ap (λ (n : ℕ). record { tag = 2; word = n }) (packed-is w)
+atom-val (symbol w) c h = refl
 atom-val (seq xs) c h = absurd (omega arith)
 
 atom-cells : (x : Obj) → marksOfObj x ≤ 0 → cellsOf x ≡ 0

@@ -22,8 +22,7 @@ use Rattle.cells.proofs.Inversions.{tag-low}
 use Rattle.lexer.specs.Vocabulary.{opCode, spelledAt}
 use Rattle.lexer.specs.Packing as lexed
 use Rattle.lexer.specs.declared.Case.the-variants.{Lower}
-use Rattle.lexer.proofs.Packed.{unpacked-packed}
-use Rattle.objects.proofs.Symbols.{packed-is}
+use Rattle.lexer.proofs.Packed.{name-back}
 use Rattle.lexer.proofs.Words.{spelled-of, code-below}
 use Rattle.formtable.specs.Standing.{kindAt, wordAt, Row, row-op, row-select, row-selectRight, row-name, row-chain, row-construct, row-insert, row-applyAll, row-condition, row-while, row-constant, row-bu}
 use Rattle.program_writer.specs.Layout.{takesPart, takesKind, opening, behindPart, behindChain, behindConstruct, behindCondition, behindWhile, ending}
@@ -207,18 +206,13 @@ module _ {C : List ℕ} {row : Val} {at : ℕ} {out : List ℕ} where
     end-bu = record { means = λ t n i f c e w d r. bu-text f c e w d r }
 
 -- ---- words and names
-name-bytes : (w : List ℕ) → IsName w → (all isNameByte w ≡ true) × (length w ≤ 12)
-name-bytes [] i = absurd i
-name-bytes (b ∷ w) i = (rw (i .0) (i .1), i .2)
-
 module _ {v at r n : ℕ} {old new out out′ : List ℕ} where
   pub name-walk : lexed.Unpacked Lower v n old new → Wrote (take n new) at r out out′ → NameWalked v at r out out′
   name-walk u w = record { means = λ x i e. wrote-as (spelled x i e) w }
     where
       spelled : (x : List ℕ) → IsName x → v ≡ packed x → take n new ≡ x
       spelled x i e =
-          let good = name-bytes x i in
-          let back : lexed.unpacked Lower v ≡ x = ap (λ (a : ℕ). lexed.unpacked Lower a) (e ∙ sym (packed-is x)) ∙ unpacked-packed Lower x (good .0) (good .1) in
+          let back : lexed.unpacked Lower v ≡ x = ap (λ (a : ℕ). lexed.unpacked Lower a) e ∙ name-back x i in
           ap (λ (l : List ℕ). take n l) (u .bytes) ∙ take-at (lexed.unpacked Lower v) _ n (sym (u .size)) ∙ back
 
 -- ---- words, selectors and names
