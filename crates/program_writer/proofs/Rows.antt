@@ -1,23 +1,23 @@
 -- What a record's kind and word say of the form that it is the record of: its marks, its words and names, its object.
 use Prim.Native.Nat.{ℕ, zero, suc, _+_, _%_, _≤_, _<_}
-use mathlib.Core.Path.{_≡_, refl, ap, ap₂, sym, subst, _∙_}
+use mathlib.Core.Path.{_≡_, refl, ap, sym, subst, _∙_}
 use mathlib.Core.Bool.{true, cond}
 use mathlib.Core.List.{List, [], _∷_}
 use native.Mathlib.Omega.{arith}
 use borrow.Author.Tests.{ne-eqb, le-leb, lt-leb}
 use lib.Dec.{eqb}
 use lib.IntN.{pos}
-use lib.ListN.{length, take}
+use lib.ListN.{take}
 use lib.Seq.{take-at}
 use Rattle.language.specs.Bytes.{bytes}
 use Rattle.language.specs.Objects.{Obj, int}
-use Rattle.language.specs.Judging.{all, isNameByte}
 use Rattle.language.specs.Forms.{Form, word, chain, construct, constant, insert, bu, condition, while}
 use Rattle.language.specs.Accepted.{IsName}
 use Rattle.language.specs.Packing.{packed}
 use Rattle.language.specs.Writing.{writeObj, writeInteger, writeWord, decimal}
 use Rattle.language.specs.declared.Val.{Val}
 use Rattle.cells.specs.Cells.{Rep, rep-pos}
+use Rattle.cells.proofs.Reps.{val-same}
 use Rattle.cells.proofs.Inversions.{tag-low}
 use Rattle.lexer.specs.Vocabulary.{opCode, spelledAt}
 use Rattle.lexer.specs.Packing as lexed
@@ -28,10 +28,6 @@ use Rattle.formtable.specs.Standing.{kindAt, wordAt, Row, row-op, row-select, r
 use Rattle.program_writer.specs.Layout.{takesPart, takesKind, opening, behindPart, behindChain, behindConstruct, behindCondition, behindWhile, ending}
 use Rattle.program_writer.specs.Walks.{Wrote, NameWalked, ConstantWalked, MarkBehind, OpeningMark, Writable, BehindWalked, PlainWalked, OpeningWalked, EndingWalked}
 use Rattle.program_writer.proofs.Wrote.{wrote-none, wrote-then, wrote-as}
-
--- ---- values
-pub val-same : (v u : Val) → v .tag ≡ u .tag → v .word ≡ u .word → v ≡ u
-val-same v u e f = ap₂ (λ (a b : ℕ). record { tag = a; word = b }) e f
 
 -- the object of a record that has one
 module _ {C : List ℕ} {n : ℕ} {x : Obj} {v : Val} (row : Val) where
