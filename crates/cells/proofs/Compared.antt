@@ -65,14 +65,11 @@ good-T = (refl, refl, omega arith)
 good-F : IsSymbol (bytes "F")
 good-F = (refl, refl, omega arith)
 
--- the value of a truth
-abbrev pub truthVal : Bool → Val
-truthVal true = record { tag = 2; word = 20 }
-truthVal false = record { tag = 2; word = 6 }
+pub rep-T : {C : List ℕ} {n : ℕ} → Rep C n (record { tag = 2; word = 20 }) (truth true)
+rep-T = rep-symbol refl good-T (sym packed-T)
 
-pub truth-rep : {C : List ℕ} {n : ℕ} (b : Bool) → Rep C n (truthVal b) (truth b)
-truth-rep true = rep-symbol refl good-T (sym packed-T)
-truth-rep false = rep-symbol refl good-F (sym packed-F)
+pub rep-F : {C : List ℕ} {n : ℕ} → Rep C n (record { tag = 2; word = 6 }) (truth false)
+rep-F = rep-symbol refl good-F (sym packed-F)
 
 pub truth-T : {C : List ℕ} {n : ℕ} {v : Val} {x : Obj} → v .tag ≡ 2 → v .word ≡ 20 → Rep C n v x → truthOf x ≡ isT
 truth-T h w (rep-pos t e b) = absurd (omega arith)

@@ -34,7 +34,7 @@ mutual
       omega arith
 
 -- ---- reading from a table that goes on with l from index i
-at-front : (t : List ℕ) (i k : ℕ) (l : List ℕ) → drop i t ≡ l → getD t (i + k) 0 ≡ getD l k 0
+pub at-front : (t : List ℕ) (i k : ℕ) (l : List ℕ) → drop i t ≡ l → getD t (i + k) 0 ≡ getD l k 0
 at-front t i k l e = sym (getD-drop i t k 0) ∙ ap (λ (x : List ℕ). getD x k 0) e
 
 behind : (t : List ℕ) (i : ℕ) (a l : List ℕ) → drop i t ≡ a ++ l → drop (i + length a) t ≡ l

@@ -45,7 +45,7 @@ pub tail-is : {C : List ℕ} {v r : Val} {p link n : ℕ} → p ≡ firstOf v �
 tail-is {p = p} {n = n} e f s g = tail-of (n - 1) p e (rw (s .is)) (rw (← f) g)
 
 -- ---- the place k
-drop-first : (xs : Objs) (k : ℕ) → k < lengthOf xs → dropObjs xs k ≡ nthObj xs k :: dropObjs xs (suc k)
+pub drop-first : (xs : Objs) (k : ℕ) → k < lengthOf xs → dropObjs xs k ≡ nthObj xs k :: dropObjs xs (suc k)
 unfolding dropObjs nthObj
 drop-first nil k h = absurd (omega arith)
 drop-first (x :: xs) zero h = refl

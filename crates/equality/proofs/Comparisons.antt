@@ -2,10 +2,10 @@
 use Prim.Native.Nat.{ℕ, suc, _+_, _-_, _*_, _≤_, _<_}
 use mathlib.Core.Path.{_≡_, refl, sym, ap, ap₂, subst, _∙_}
 use mathlib.Core.Bool.{Bool, true, false, cond}
-use mathlib.Core.List.{List, [], _∷_}
+use mathlib.Core.List.{List}
 use native.Mathlib.Omega.{arith}
-use lib.Dec.{eqb, leb}
-use borrow.Author.Tests.{le-leb, lt-leb, leb-true, leb-false, eq-eqb, ne-eqb, eqb-true}
+use lib.Dec.{leb}
+use borrow.Author.Tests.{le-leb, lt-leb, leb-true, leb-false, eq-eqb, ne-eqb}
 use Rattle.language.specs.Bytes.{sameBytes}
 use Rattle.language.specs.Objects.{Obj, int, symbol, seq, Objs, nil, _::_}
 use Rattle.language.specs.Meanings.{Looked, look, lookAlong, onward}
@@ -19,6 +19,7 @@ use Rattle.language.proofs.Charging.{step-granted, step-spent}
 use Rattle.cells.specs.Cells.{Rep, rep-pos, rep-neg, rep-symbol, rep-nil, rep-more}
 use Rattle.cells.specs.Parts.{Sized, Headed, Tailed}
 use Rattle.cells.proofs.Packing.{symbols-same}
+use Rattle.cells.proofs.Compared.{same-bytes-is, same-bytes-refl}
 use Rattle.equality.specs.declared.Compared.{Compared}
 use Rattle.equality.specs.declared.Compared.the-variants.{Equal, Differ, Out}
 use Rattle.equality.specs.Looking.{stepsTaken, ended, after, Fewer, NoMore, Falls, Sinks, Looks, LooksAlong}
@@ -92,29 +93,12 @@ ended-onward a b m = go (a .same) refl
     go false e = rw e (onward-other (a .pairs) b m)
 
 -- ---- two atoms, or objects of different kinds
-pub same-self : (s : List ℕ) → sameBytes s s ≡ true
-same-self [] = refl
-same-self (x ∷ s) = rw (eq-eqb x x refl, same-self s)
-
-pub same-bytes : (v w : List ℕ) → sameBytes v w ≡ true → v ≡ w
-same-bytes [] [] e = refl
-same-bytes [] (y ∷ w) e = let z : _≡_ {A = ℕ} 0 1 = cc in absurd (omega arith)
-same-bytes (x ∷ v) [] e = let z : _≡_ {A = ℕ} 0 1 = cc in absurd (omega arith)
-same-bytes (x ∷ v) (y ∷ w) e = go (eqb x y) refl (λ f. same-bytes v w f)
-  where
-    go : (t : Bool) → eqb x y ≡ t → (sameBytes v w ≡ true → v ≡ w) → x ∷ v ≡ y ∷ w
-    go true f k = ap₂ _∷_ (eqb-true x y f) (k (rw f at e))
-    go false f k = let u : false ≡ true = rw f at e in let z : _≡_ {A = ℕ} 0 1 = cc in absurd (omega arith)
-
-pub other-bytes : (v w : List ℕ) → (v ≡ w → ⊥) → sameBytes v w ≡ false
+other-bytes : (v w : List ℕ) → (v ≡ w → ⊥) → sameBytes v w ≡ false
 other-bytes v w h = go (sameBytes v w) refl
   where
     go : (t : Bool) → sameBytes v w ≡ t → t ≡ false
-    go true e = absurd (h (same-bytes v w e))
+    go true e = absurd (h (same-bytes-is v w e))
     go false e = refl
-
-pub packed-as : {v w : List ℕ} → v ≡ w → packed v ≡ packed w
-packed-as e = ap packed e
 
 atoms-equal : {C : List ℕ} {n : ℕ} {a b : Val} {x y : Obj} → a .tag ≡ b .tag → (a .tag ≡ 3 → ⊥) → a .word ≡ b .word → Rep C n a x → Rep C n b y → look x y ≡ record { same = true; pairs = 1 }
 atoms-equal t h e (rep-pos {k = k} t₁ e₁ l₁) (rep-pos {k = j} t₂ e₂ l₂) = rw (eq-eqb k j (omega arith))
@@ -129,7 +113,7 @@ atoms-equal t h e (rep-neg t₁ e₁ l₁) (rep-nil t₂ e₂) = absurd (omega a
 atoms-equal t h e (rep-neg t₁ e₁ l₁) (rep-more t₂ e₂ l₂ p₂ q₂) = absurd (omega arith)
 atoms-equal t h e (rep-symbol t₁ i₁ e₁) (rep-pos t₂ e₂ l₂) = absurd (omega arith)
 atoms-equal t h e (rep-symbol t₁ i₁ e₁) (rep-neg t₂ e₂ l₂) = absurd (omega arith)
-atoms-equal t h e (rep-symbol {w = v} t₁ i₁ e₁) (rep-symbol {w = w} t₂ i₂ e₂) = rw (symbols-same v w i₁ i₂ (sym e₁ ∙ (e ∙ e₂)), same-self w)
+atoms-equal t h e (rep-symbol {w = v} t₁ i₁ e₁) (rep-symbol {w = w} t₂ i₂ e₂) = rw (symbols-same v w i₁ i₂ (sym e₁ ∙ (e ∙ e₂)), same-bytes-refl w)
 atoms-equal t h e (rep-symbol t₁ i₁ e₁) (rep-nil t₂ e₂) = absurd (omega arith)
 atoms-equal t h e (rep-symbol t₁ i₁ e₁) (rep-more t₂ e₂ l₂ p₂ q₂) = absurd (omega arith)
 atoms-equal t h e (rep-nil t₁ e₁) r = absurd (h t₁)
@@ -148,7 +132,7 @@ atoms-differ t h e (rep-neg t₁ e₁ l₁) (rep-nil t₂ e₂) = absurd (omega 
 atoms-differ t h e (rep-neg t₁ e₁ l₁) (rep-more t₂ e₂ l₂ p₂ q₂) = absurd (omega arith)
 atoms-differ t h e (rep-symbol t₁ i₁ e₁) (rep-pos t₂ e₂ l₂) = absurd (omega arith)
 atoms-differ t h e (rep-symbol t₁ i₁ e₁) (rep-neg t₂ e₂ l₂) = absurd (omega arith)
-atoms-differ t h e (rep-symbol {w = v} t₁ i₁ e₁) (rep-symbol {w = w} t₂ i₂ e₂) = rw (other-bytes v w (λ f. e (e₁ ∙ (packed-as f ∙ sym e₂))))
+atoms-differ t h e (rep-symbol {w = v} t₁ i₁ e₁) (rep-symbol {w = w} t₂ i₂ e₂) = rw (other-bytes v w (λ f. e (e₁ ∙ (ap packed f ∙ sym e₂))))
 atoms-differ t h e (rep-symbol t₁ i₁ e₁) (rep-nil t₂ e₂) = absurd (omega arith)
 atoms-differ t h e (rep-symbol t₁ i₁ e₁) (rep-more t₂ e₂ l₂ p₂ q₂) = absurd (omega arith)
 atoms-differ t h e (rep-nil t₁ e₁) r = absurd (h t₁)

@@ -29,7 +29,8 @@ use Rattle.linker.specs.Linked.{FormIs, is-op, is-select, is-select-right, is-n
 use Rattle.evaluator.specs.Applying.{Setting, by, At, Given, Alone, a-word, a-select, a-select-right, a-constant, no-kind, Applied, Falls, Sinks, Chained, Built, Mapped, Inserted, Bound, Chosen, Repeated, Named, nameBy, Copied, Ran}
 use Rattle.primitives.specs.Leaves.{Coded}
 use Rattle.evaluator.proofs.Copies.{def-copied}
-use Rattle.evaluator.proofs.Steps.{Since, since-step, ends-since, ends-eq, gives-eq, kept-refl, agree-refl, given-charged, sinks-le}
+use Rattle.primitives.proofs.Ending.{agree-self}
+use Rattle.evaluator.proofs.Steps.{Since, since-step, ends-since, ends-eq, gives-eq, kept-refl, given-charged, sinks-le}
 
 -- the number is no kind of a form with parts, and no name's
 pub record Bare (κ : ℕ) : Type 0 where
@@ -157,7 +158,7 @@ spent-means S f x m zero e = ap (spent noStep) (step-spent m e .1)
 spent-means S f x m (suc k) e = step-asked m (λ m₁. inside (by S k) k one (S .prog) f x m₁) ∙ ap (λ u. onCharge u noStep (λ m₁. inside (by S k) k one (S .prog) f x m₁)) e
 
 pub apply-spent : {F C W : List ℕ} {top i : ℕ} {v : Val} {m m₁ : Meter} {ch : Charge} → ch ≡ stepCharge m → ch ≡ Spent m₁ → Applied F C W top i v m (Stop 22 m₁) C W
-apply-spent {m = m} {m₁} a b = record { falls = tt; means = λ S k f x at g. ends-stop (ran-out (spent-means S f x m k (sym a ∙ b)) refl (agree-refl m₁)) }
+apply-spent {m = m} {m₁} a b = record { falls = tt; means = λ S k f x at g. ends-stop (ran-out (spent-means S f x m k (sym a ∙ b)) refl (agree-self m₁)) }
 
 pub apply-leaf : {F C W C₁ : List ℕ} {κ top i : ℕ} {v : Val} {m m₁ : Meter} {ch : Charge} {r : Ended} → ch ≡ stepCharge m → ch ≡ Granted m₁ → κ ≡ kindAt F i → (κ ≡ 4 → ⊥) → (κ ≡ 5 → ⊥) → (κ ≡ 6 → ⊥) → (κ ≡ 7 → ⊥) → (κ ≡ 8 → ⊥) → (κ ≡ 9 → ⊥) → (κ ≡ 10 → ⊥) → (κ ≡ 16 → ⊥) → Alone F C i v m₁ κ r C₁ → Applied F C W top i v m r C₁ W
 apply-leaf a b q n4 n5 n6 n7 n8 n9 n10 n16 l = applied a b q refl (on-leaf (record { not4 = n4; not5 = n5; not6 = n6; not7 = n7; not8 = n8; not9 = n9; not10 = n10; not16 = n16 }) l)
@@ -186,7 +187,7 @@ ends-gives (ends-stop (ran-out e z a)) = gives-eq e (gives-spent z a)
 
 pub ran-spent : {F C : List ℕ} {d : ℕ} {v : Val} {m m₁ : Meter} {ch : Charge} → ch ≡ stepCharge m → ch ≡ Spent m₁ → Ran F C d v m (Stop 22 m₁) C
 ran-spent {C = C} {m = m} {m₁} a b = record {
-  means = λ P root x ds q rm p. gives-eq (spent-means (record { prog = P; root = root; cells = C; few = free C m }) mainForm x m (m .steps) (sym a ∙ b)) (gives-spent refl (agree-refl m₁));
+  means = λ P root x ds q rm p. gives-eq (spent-means (record { prog = P; root = root; cells = C; few = free C m }) mainForm x m (m .steps) (sym a ∙ b)) (gives-spent refl (agree-self m₁));
 }
 
 run-means : {F C W C₁ W₁ : List ℕ} {d : ℕ} {v : Val} {m m₁ : Meter} {x : Obj} {r : Ended} (S : Setting) (k : ℕ) → m .steps ≤ k → stepCharge m ≡ Granted m₁ → Left m m₁ 1 0 0 → Named F C W 0 d v m₁ r C₁ W₁ → d ≡ S .root (bytes "main") → Given F S k C W m v x → Ends C W 0 m (by S k mainForm x m) C₁ W₁ r

@@ -20,7 +20,8 @@ use Rattle.cells.specs.Parts.{holdAt, Sized, Headed, Tailed}
 use Rattle.cells.proofs.Reps.{rep-ext}
 use Rattle.linker.specs.Linked.{PartsAt, no-part, a-part, linkAt}
 use Rattle.evaluator.specs.Applying.{Setting, by, At, AllAt, Given, Applied, Falls, Sinks, Built, Mapped, PutAt, Slotted, Collected}
-use Rattle.evaluator.proofs.Steps.{Since, since, since-refl, free-up, gave, gave-stop, ends-eq, stopped-eq, agree-refl, given-next, given-again, given-held, few-cells, applied-as, sinks-le}
+use Rattle.primitives.proofs.Ending.{agree-self}
+use Rattle.evaluator.proofs.Steps.{Since, since, since-refl, free-up, gave, gave-stop, ends-eq, stopped-eq, given-next, given-again, given-held, few-cells, applied-as, sinks-le}
 use Rattle.evaluator.proofs.Waits.{Waiting, wait-start, wait-next, wait-stop, wait-closed, length-hold}
 
 -- ---- a value that waits
@@ -143,7 +144,7 @@ atom-all S k f m h (rep-nil e w) = absurd (h e)
 atom-all S k f m h (rep-more e w l a b) = absurd (h e)
 
 pub map-atom : {F C W : List ℕ} {top g : ℕ} {v : Val} {m : Meter} → (v .tag ≡ 3 → ⊥) → Mapped F C W top g v m (Stop 21 m) C W
-map-atom {m = m} h = record { sinks = tt; means = λ S k f x fa g. ends-stop (fell (atom-all S k f m h (g .arg)) refl (agree-refl m)) }
+map-atom {m = m} h = record { sinks = tt; means = λ S k f x fa g. ends-stop (fell (atom-all S k f m h (g .arg)) refl (agree-self m)) }
 
 pub map-start : {F C W : List ℕ} {top g many : ℕ} {v : Val} {m : Meter} → Sized v many → Mapping F C W top g many v m C W v 0 m
 map-start {C = C} {W} {top} {m = m} sz = record {

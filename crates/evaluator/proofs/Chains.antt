@@ -26,7 +26,8 @@ use Rattle.evaluator.specs.declared.waiting.Asked.the-variants.{Says, St
 use Rattle.linker.specs.Linked.{FormAt, form-at, UpTo, none-yet, one-more, DefAt, no-def, a-def, linkAt}
 use Rattle.evaluator.specs.Ring.{Kept, Finished, Stopped, fell, ran-out, Ends, ends-done, ends-stop}
 use Rattle.evaluator.specs.Applying.{Setting, by, At, LastAt, Given, Applied, Falls, Sinks, Chained, Chosen, Named, nameBy, Judged, Branch, Answers, says-yes, says-no, says-stop, Questioned, Lessens}
-use Rattle.evaluator.proofs.Steps.{Since, since, since-refl, since-trans, gave, gave-stop, ends-since, ends-eq, stopped-eq, stopped-bind, stopped-close, agree-refl, given-value, given-again, given-charged, applied-as, sinks-after, decide-true, decide-false, decide-none}
+use Rattle.primitives.proofs.Ending.{agree-self}
+use Rattle.evaluator.proofs.Steps.{Since, since, since-refl, since-trans, gave, gave-stop, ends-since, ends-eq, stopped-eq, stopped-bind, stopped-close, given-value, given-again, given-charged, applied-as, sinks-after, decide-true, decide-false, decide-none}
 
 bind-value : (u : Out Obj) → u ≡ bind u (λ y m. value y m)
 bind-value (value y m) = refl
@@ -131,7 +132,7 @@ ask-none {C₁ = C₁} {n = n} a e jd d t =
       falls = tt;
       means = λ S k p x at gv.
           let u = gave (a′ .means S k p x at gv) in
-          says-stop (λ onT onF. fell (ap (λ w. bind w (λ b m₁. decide b m₁ onT onF)) (u .is) ∙ decide-none (u .obj) n onT onF (jd .is-none d t C₁ (free C₁ n) (u .obj) (u .made .rep))) refl (agree-refl n));
+          says-stop (λ onT onF. fell (ap (λ w. bind w (λ b m₁. decide b m₁ onT onF)) (u .is) ∙ decide-none (u .obj) n onT onF (jd .is-none d t C₁ (free C₁ n) (u .obj) (u .made .rep))) refl (agree-self n));
     }
 
 asked-as : {F C W C₁ W₁ : List ℕ} {top i : ℕ} {v : Val} {m : Meter} {r r′ : Asked} → r ≡ r′ → Questioned F C W top i v m r C₁ W₁ → Questioned F C W top i v m r′ C₁ W₁
@@ -208,7 +209,7 @@ none-named ev x m z (no-def e) = refl
 none-named ev x m z (a-def {i = i} e f) = absurd (omega arith)
 
 pub name-none : {F C W : List ℕ} {top d : ℕ} {v : Val} {m : Meter} → d ≡ 0 → Named F C W top d v m (Stop 21 m) C W
-name-none {m = m} z = record { sinks = tt; means = λ S k w x nm q gv. ends-stop (fell (none-named (by S k) x m (sym q ∙ z) (gv .defs w nm)) refl (agree-refl m)) }
+name-none {m = m} z = record { sinks = tt; means = λ S k w x nm q gv. ends-stop (fell (none-named (by S k) x m (sym q ∙ z) (gv .defs w nm)) refl (agree-self m)) }
 
 -- a defined name is asked for, and then its body
 body-asked : {b : Option Form} (ev : Apply) (f : Form) (x : Obj) (m : Meter) → b ≡ some f → nameBy ev b x m ≡ onCharge (nameCharge m) noName (λ m₁. close (m .names) (ev f x m₁))
@@ -233,7 +234,7 @@ pub name-full : {F C W : List ℕ} {top d : ℕ} {v : Val} {m n : Meter} {ch : C
 name-full {m = m} {n} z a b = record {
   sinks = tt;
   means = λ S k w x nm q gv. let y = body w nm z q gv in
-      ends-stop (ran-out (body-asked (by S k) (y .form) x m (y .is) ∙ ap (λ u. onCharge u noName (λ m₁. close (m .names) (by S k (y .form) x m₁))) (sym a ∙ b)) refl (agree-refl n));
+      ends-stop (ran-out (body-asked (by S k) (y .form) x m (y .is) ∙ ap (λ u. onCharge u noName (λ m₁. close (m .names) (by S k (y .form) x m₁))) (sym a ∙ b)) refl (agree-self n));
 }
 
 pub name-stop : {F C W C₁ W₁ : List ℕ} {top d a : ℕ} {v : Val} {m m₁ n : Meter} {ch : Charge} {r : Ended} → (d ≡ 0 → ⊥) → ch ≡ nameCharge m → ch ≡ Granted m₁ → Applied F C W top (d - 1) v m₁ r C₁ W₁ → r ≡ Stop a n → Named F C W top d v m (Stop a n) C₁ W₁

@@ -20,8 +20,10 @@ use Rattle.language.proofs.Charging.{Left, cells-asked, cells-granted}
 use Rattle.cells.specs.Cells.{Rep, rep-pos, rep-neg, rep-symbol, rep-nil, rep-more, Same, Room, free}
 use Rattle.cells.specs.Parts.{Sized, Nth, nthObj, dropObjs, Paired, onto}
 use Rattle.cells.proofs.Reps.{same-trans, rep-ext, free-is, free-room}
+use Rattle.cells.proofs.Places.{drop-first}
 use Rattle.evaluator.specs.Applying.{Setting, by, At, Given, Applied, Falls, Sinks, Bound, Inserted, Folded, onPairOf}
-use Rattle.evaluator.proofs.Steps.{Since, since, since-refl, since-trans, kept-refl, gave, gave-stop, ends-since, ends-eq, stopped-eq, stopped-bind, agree-refl, given-again, few-cells, applied-as}
+use Rattle.primitives.proofs.Ending.{agree-self}
+use Rattle.evaluator.proofs.Steps.{Since, since, since-refl, since-trans, kept-refl, gave, gave-stop, ends-since, ends-eq, stopped-eq, stopped-bind, given-again, few-cells, applied-as}
 use Rattle.evaluator.proofs.Builds.{on-sequence}
 
 -- what holds after two cells were taken for a pair
@@ -50,7 +52,7 @@ pair-asked m S j f a b e c h = cells-asked 2 m (λ m₁. by S j f (pair a b) m�
 
 -- ---- `{f,x}`
 pub bu-full : {F C W : List ℕ} {top g : ℕ} {a v : Val} {m k : Meter} {ch : Charge} → ch ≡ cellsCharge 2 m → ch ≡ Spent k → Bound F C W top g a v m (Stop 24 k) C W
-bu-full {m = m} {k} a b = record { sinks = tt; means = λ S j f y x fa ra g. ends-stop (ran-out (pair-asked m S j f y x a (Spent k) b) refl (agree-refl k)) }
+bu-full {m = m} {k} a b = record { sinks = tt; means = λ S j f y x fa ra g. ends-stop (ran-out (pair-asked m S j f y x a (Spent k) b) refl (agree-self k)) }
 
 falls-sinks : (r : Ended) (m k : Meter) → Falls r k → k .steps + 0 ≡ m .steps → Sinks r m
 falls-sinks (Done v l) m k f s = omega arith
@@ -72,7 +74,7 @@ bu-done {C = C} {top = top} {m = m} {k} {r = r} pe a b pr lc ap1 =
 
 -- ---- one pair of an insert
 pub fold-full : {F C W : List ℕ} {top g q : ℕ} {s v : Val} {m k : Meter} {ch : Charge} → ch ≡ cellsCharge 2 m → ch ≡ Spent k → Folded F C W top g s q v m (Stop 24 k) C W
-fold-full {q = q} {m = m} {k} a b = record { falls = tt; means = λ S j f xs acc fa g l r. ends-stop (ran-out (pair-asked m S j f (nthObj xs q) acc a (Spent k) b) refl (agree-refl k)) }
+fold-full {q = q} {m = m} {k} a b = record { falls = tt; means = λ S j f xs acc fa g l r. ends-stop (ran-out (pair-asked m S j f (nthObj xs q) acc a (Spent k) b) refl (agree-self k)) }
 
 pub fold-done : {F C W C₁ C₂ W₂ : List ℕ} {top g q p : ℕ} {s v a y : Val} {m k : Meter} {ch : Charge} {r : Ended} → p ≡ free C m % 4294967296 → ch ≡ cellsCharge 2 m → ch ≡ Granted k → Nth C s q a → Paired C p a v y C₁ → length C₁ ≡ length C → Applied F C₁ W top g y k r C₂ W₂ → Folded F C W top g s q v m r C₂ W₂
 fold-done {C = C} {top = top} {q = q} {m = m} {k} {r = r} pe a b nt pr lc ap1 =
@@ -110,12 +112,6 @@ unfolding onto up
 insert-onto ev f m [] x xs = refl
 insert-onto ev f m (e ∷ es) x xs = insert-onto ev f m es e (x :: xs)
 
-drop-first : (xs : Objs) (k : ℕ) → k < lengthOf xs → dropObjs xs k ≡ nthObj xs k :: dropObjs xs (suc k)
-unfolding dropObjs nthObj
-drop-first nil k h = absurd (omega arith)
-drop-first (x :: xs) zero h = refl
-drop-first (x :: xs) (suc k) h = drop-first xs k (omega arith)
-
 onto-pre : (xs : Objs) (k : ℕ) → k ≤ lengthOf xs → onto (pre xs k) (dropObjs xs k) ≡ xs
 unfolding onto pre dropObjs
 onto-pre xs zero h = refl
@@ -134,7 +130,7 @@ atom-insert S k f m h (rep-nil e w) = absurd (h e)
 atom-insert S k f m h (rep-more e w l a b) = absurd (h e)
 
 pub insert-atom : {F C W : List ℕ} {top g : ℕ} {v : Val} {m : Meter} → (v .tag ≡ 3 → ⊥) → Inserted F C W top g v m (Stop 21 m) C W
-insert-atom {m = m} h = record { sinks = tt; means = λ S k f x fa g. ends-stop (fell (atom-insert S k f m h (g .arg)) refl (agree-refl m)) }
+insert-atom {m = m} h = record { sinks = tt; means = λ S k f x fa g. ends-stop (fell (atom-insert S k f m h (g .arg)) refl (agree-self m)) }
 
 none-inserted : (xs : Objs) (S : Setting) (k : ℕ) (f : Form) (m : Meter) → lengthOf xs ≡ 0 → insertOn (by S k) f (seq xs) m ≡ bottom m
 none-inserted nil S k f m e = refl
@@ -144,7 +140,7 @@ pub insert-none : {F C W : List ℕ} {top g many : ℕ} {v : Val} {m : Meter} �
 insert-none {C = C} {m = m} tg s z = record {
   sinks = tt;
   means = λ S k f x fa g. on-sequence (insertOn (by S k) f) tg g (λ xs g₁.
-      ends-stop (fell (none-inserted xs S k f m (omega (arith, s .means C (free C m) xs (few-cells (g₁ .room) .1) (g₁ .arg)))) refl (agree-refl m)));
+      ends-stop (fell (none-inserted xs S k f m (omega (arith, s .means C (free C m) xs (few-cells (g₁ .room) .1) (g₁ .arg)))) refl (agree-self m)));
 }
 
 pub record InsertNow (F : List ℕ) (S : Setting) (k : ℕ) (Cs Ws : List ℕ) (top : ℕ) (v : Val) (m : Meter) (f : Form) (xs : Objs) (C W : List ℕ) (q : ℕ) (y : Val) (n : Meter) : Type 0 where

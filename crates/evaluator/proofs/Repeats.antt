@@ -23,7 +23,7 @@ use Rattle.evaluator.specs.declared.waiting.Asked.{Asked}
 use Rattle.evaluator.specs.declared.waiting.Asked.the-variants.{Says, Stop as AskStop}
 use Rattle.linker.specs.Linked.{linkAt}
 use Rattle.evaluator.specs.Applying.{Setting, by, At, Given, Applied, Falls, Sinks, Repeated, Questioned}
-use Rattle.evaluator.proofs.Steps.{Since, since, since-refl, since-trans, gave, gave-stop, ends-eq, stopped-eq, stopped-bind, agree-refl, given-value, given-again, applied-as, fell-by}
+use Rattle.evaluator.proofs.Steps.{Since, since, since-refl, since-trans, gave, gave-stop, ends-eq, stopped-eq, stopped-bind, given-value, given-again, applied-as, fell-by}
 use Rattle.evaluator.proofs.Chains.{Said, says-fell, on-yes, on-no, on-stop, decided-yes, decided-no}
 
 pub record RepeatNow (F : List ℕ) (S : Setting) (k : ℕ) (Cs Ws : List ℕ) (top : ℕ) (m : Meter) (p f : Form) (e : Out Obj) (C W : List ℕ) (v : Val) (n : Meter) : Type 0 where

@@ -73,9 +73,6 @@ ends-eq {C} {W} {C₁} {W₁} {top} {m} {r = r} q g = subst (λ u. Ends C W top 
 pub gives-eq : {C C₁ : List ℕ} {m : Meter} {e e′ : Out Obj} {r : Ended} → e′ ≡ e → Gives C m C₁ e r → Gives C m C₁ e′ r
 gives-eq {C} {C₁} {m} {r = r} q g = subst (λ u. Gives C m C₁ u r) (sym q) g
 
-pub agree-refl : (m : Meter) → Agree m m
-agree-refl m = record { steps = refl; cells = refl }
-
 pub stopped-eq : {A : Type 0} {e e′ : Out A} {n : ℕ} {m : Meter} → e′ ≡ e → Stopped e n m → Stopped e′ n m
 stopped-eq q (fell e z a) = fell (q ∙ e) z a
 stopped-eq q (ran-out e z a) = ran-out (q ∙ e) z a

@@ -25,7 +25,8 @@ use Rattle.primitives.specs.declared.Ended.the-variants.{Done, Stop}
 use Rattle.primitives.specs.Ends.{Made, Agree, Gives, gives-value, gives-bottom, gives-spent}
 use Rattle.evaluator.specs.Ring.{Kept, Finished, Stopped, fell, ran-out, Ends, ends-done, ends-stop}
 use Rattle.evaluator.specs.Applying.{Given, Sinks, Taken, Collected}
-use Rattle.evaluator.proofs.Steps.{free-up, kept-refl, ends-eq, gives-eq, stopped-eq, stopped-bind, agree-refl, few-cells}
+use Rattle.primitives.proofs.Ending.{agree-self}
+use Rattle.evaluator.proofs.Steps.{free-up, kept-refl, ends-eq, gives-eq, stopped-eq, stopped-bind, few-cells}
 
 -- ---- a value in the ring
 val-behind : (W : List ℕ) (p : ℕ) (v : Val) (j : ℕ) → p < j → valAt (cellPut W p v 0) j ≡ valAt W j
@@ -148,7 +149,7 @@ pub collect-full : {C W : List ℕ} {top q : ℕ} {n k : Meter} {ch : Charge} �
 collect-full {q = q} {n} {k} a b = record {
   sinks = tt;
   taken = tt;
-  means = λ es l h r. gives-eq (gathered-by es q n l ∙ ap (λ c. onCharge c noCell (λ m₁. value (seq (onto es nil)) m₁)) (sym a ∙ b)) (gives-spent refl (agree-refl k));
+  means = λ es l h r. gives-eq (gathered-by es q n l ∙ ap (λ c. onCharge c noCell (λ m₁. value (seq (onto es nil)) m₁)) (sym a ∙ b)) (gives-spent refl (agree-self k));
 }
 
 pub collect-made : {C W C₁ : List ℕ} {top q p : ℕ} {v : Val} {n k : Meter} {ch : Charge} → p ≡ free C n % 4294967296 → ch ≡ cellsCharge q n → ch ≡ Granted k → Gathered C W top q p v C₁ → length C₁ ≡ length C → Collected C W top q n (Done v k) C₁

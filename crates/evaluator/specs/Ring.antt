@@ -5,13 +5,14 @@ use mathlib.Core.List.{List, [], _∷_}
 use lib.ListN.{length}
 use Rattle.language.specs.Objects.{Obj}
 use Rattle.language.specs.Evaluation.{Out, value, bottom, spent, Spent}
+use Rattle.language.specs.Answers.{spentNumber}
 use Rattle.language.specs.declared.Meter.{Meter}
 use Rattle.language.specs.declared.Val.{Val}
 use Rattle.cells.specs.Cells.{Rep, Same, Room, free}
 use Rattle.cells.specs.Parts.{heldAt, holdAt}
 use Rattle.primitives.specs.declared.Ended.{Ended}
 use Rattle.primitives.specs.declared.Ended.the-variants.{Done, Stop}
-use Rattle.primitives.specs.Ends.{Made, Agree, spentNumber}
+use Rattle.primitives.specs.Ends.{Made, Agree}
 
 -- A waiting value at a distance d below the top is kept, unless with the cells that were made, a less b, it is more than 4,096:
 -- then the construction that waits for it can't complete.

@@ -15,6 +15,7 @@ use Rattle.language.specs.Objects.{Obj}
 use Rattle.language.specs.Forms.{Form, word, name, constant, select, selectRight, op}
 use Rattle.language.specs.Words.{Op}
 use Rattle.language.specs.Tokens.{byteAt, placeFrom}
+use Rattle.language.specs.Packing.{packed}
 use Rattle.language.specs.Judging.{Judged, is, isNot, judgePart, refusalOf}
 use Rattle.language.specs.Reading.{Got, got, no, andThen, wordAt, mark, calls}
 use Rattle.theorems.proofs.Outcomes.{MeetsWord, meetsWord}
@@ -24,7 +25,6 @@ use Rattle.tables.specs.Tables.{recordPut}
 use Rattle.lexer.specs.Readings.{Skipped, Sized}
 use Rattle.lexer.specs.Vocabulary.{opCode}
 use Rattle.lexer.specs.Judgements.{partJudged}
-use Rattle.lexer.specs.Packing.{packed as lexerPacked}
 use Rattle.lexer.specs.declared.PartJudged.{PartJudged}
 use Rattle.lexer.specs.declared.PartJudged.the-variants as P
 use Rattle.lexer.proofs.Words.{code-below}
@@ -34,7 +34,6 @@ use Rattle.formtable.specs.Encoding.{lowOf, highOf, encodeForm, constantsFrom}
 use Rattle.objects.specs.declared.ObjectRead.{ObjectRead}
 use Rattle.objects.specs.declared.ObjectRead.the-variants as O
 use Rattle.objects.specs.Readings.{ReadMeets, reads, refuses, ObjectReading}
-use Rattle.objects.proofs.Symbols.{packed-is}
 use Rattle.forms.specs.declared.MarkRead.{MarkRead}
 use Rattle.forms.specs.declared.MarkRead.the-variants as M
 use Rattle.forms.specs.declared.CommaRead.the-variants as C
@@ -240,9 +239,9 @@ right-plainly : (k : ℕ) → k ≤ 255 → Plainly (word (selectRight k)) 3 k
 unfolding encodeForm constantsFrom
 right-plainly k h = let z = small k (omega arith) in record { records = λ c. rw (z .0, z .1); cells = λ c. refl }
 
-name-plainly : (w : List ℕ) → Plainly (name w) 4 (lexerPacked w)
+name-plainly : (w : List ℕ) → Plainly (name w) 4 (packed w)
 unfolding encodeForm constantsFrom
-name-plainly w = record { records = λ c. rw (packed-is w); cells = λ c. refl }
+name-plainly w = record { records = λ c. refl; cells = λ c. refl }
 
 op-judged : {k n : ℕ} {j : Judged Form} → Plain j → MeetsWord (IsPartIn n) j → partJudged j ≡ P.Primitive k → JudgedAs j 1 k
 op-judged (a-word {w = select i}) m e = absurd (let z : _≡_ {A = ℕ} 0 1 = cc in omega arith)
@@ -269,7 +268,7 @@ name-judged : {k n : ℕ} {j : Judged Form} → Plain j → MeetsWord (IsPartIn 
 name-judged (a-word {w = select i}) m e = absurd (let z : _≡_ {A = ℕ} 0 1 = cc in omega arith)
 name-judged (a-word {w = selectRight i}) m e = absurd (let z : _≡_ {A = ℕ} 0 1 = cc in omega arith)
 name-judged (a-word {w = op o}) m e = absurd (let z : _≡_ {A = ℕ} 0 1 = cc in omega arith)
-name-judged {k} (a-name {w}) m e = let z : lexerPacked w ≡ k = cc in record { form = name w; judged = refl; plainly = rw (← z) (name-plainly w) }
+name-judged {k} (a-name {w}) m e = let z : packed w ≡ k = cc in record { form = name w; judged = refl; plainly = rw (← z) (name-plainly w) }
 name-judged neither m e = absurd (let z : _≡_ {A = ℕ} 0 1 = cc in omega arith)
 
 not-judged : {j : Judged Form} {k : ℕ} → Plain j → partJudged j ≡ P.Not k → j ≡ isNot k

@@ -1,12 +1,12 @@
 -- The records and the constants of forms, of programs and of definitions, one behind the other.
 use Prim.Native.Nat.{ℕ, zero, _+_}
 use mathlib.Core.Path.{_≡_, refl, ap, sym, _∙_}
-use mathlib.Core.List.{List, [], _∷_, _++_, append-assoc, append-nil, map}
+use mathlib.Core.List.{List, [], _∷_, _++_, append-assoc, append-nil}
 use native.Mathlib.Nat.{add-zero}
 use native.Mathlib.Omega.{arith}
 use Rattle.language.specs.Forms.{Form, Forms, stop, _&_, _+&_, Def, Prog, formsIn, formsOf, constantCells, constantCellsAll, programCells}
 use Rattle.language.specs.Reading.{Placed}
-use Rattle.formtable.specs.Encoding.{encodeForm, encodeForms, constantsFrom, constantsFromAll, encodeProgram, programConstants, encodeDefinitions}
+use Rattle.formtable.specs.Encoding.{encodeForm, encodeForms, constantsFrom, constantsFromAll, encodeProgram, programConstants, programOf, encodeDefinitions}
 
 pub forms-appended : (fs gs : Forms) (c : ℕ) → encodeForms c (fs +& gs) ≡ encodeForms c fs ++ encodeForms (c + constantCellsAll fs) gs
 unfolding encodeForm
@@ -44,10 +44,6 @@ program-constants-appended [] Q c = rw add-zero
 program-constants-appended (d ∷ P) Q c =
     let z : c + (constantCells (d .body) + programCells P) ≡ c + constantCells (d .body) + programCells P = omega arith in
     rw (z, append-assoc) (ap (λ (x : List ℕ). constantsFrom c (d .body) ++ x) (program-constants-appended P Q (c + constantCells (d .body))))
-
--- the program of placed definitions
-abbrev pub programOf : List Placed → Prog
-programOf ds = map (λ (d : Placed). d .def) ds
 
 pub definitions-appended : (ds es : List Placed) (r : ℕ) → encodeDefinitions r (ds ++ es) ≡ encodeDefinitions r ds ++ encodeDefinitions (r + formsOf (programOf ds)) es
 unfolding encodeDefinitions

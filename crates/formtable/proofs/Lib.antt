@@ -1,3 +1,5 @@
 pub mod Lengths
 pub mod Appended
+pub mod Standing
 pub mod Stood
+pub mod Names

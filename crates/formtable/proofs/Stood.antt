@@ -1,11 +1,11 @@
 -- What is encoded stands: a table that goes on with a form's records, and cells that go on with its constants, have the form stand there.
 use Prim.Native.Nat.{ℕ, _+_, _*_, _/_, _%_, _≤_}
-use mathlib.Core.Path.{_≡_, refl, sym, ap, _∙_}
+use mathlib.Core.Path.{_≡_, refl, _∙_}
 use mathlib.Core.List.{List, [], _∷_, _++_, append-assoc, append-nil}
 use native.Mathlib.Nat.{add-zero}
 use native.Mathlib.Omega.{arith}
-use lib.ListN.{length, drop, getD}
-use lib.Seq.{getD-drop, drop-drop, drop-append-seam}
+use lib.ListN.{length, drop}
+use lib.Seq.{drop-drop, drop-append-seam}
 use Rattle.language.specs.Objects.{Obj, cellsOf}
 use Rattle.language.specs.Forms.{Form, word, name, chain, construct, constant, insert, applyAll, bu, condition, while, Forms, stop, _&_, _+&_, Word, select, selectRight, op, Def, Prog, count, formsIn, formsInAll, formsOf, constantCells, constantCellsAll, programCells}
 use Rattle.language.specs.Accepted.{IsObj, IsForm, AreForms, AreDefinitions}
@@ -14,15 +14,12 @@ use Rattle.language.specs.declared.Val.{Val}
 use Rattle.tables.specs.Tables.{put}
 use Rattle.lexer.specs.Vocabulary.{opCode}
 use Rattle.cells.specs.Encoding.{valOf, cellsFrom}
-use Rattle.cells.proofs.Encoded.{cells-rep}
+use Rattle.cells.proofs.Encoded.{at-front, cells-rep}
 use Rattle.formtable.specs.Encoding.{lowOf, highOf, encodeForm, encodeForms, constantsFrom, constantsFromAll, encodeProgram, programConstants}
 use Rattle.formtable.specs.Standing.{kindAt, arityAt, wordAt, parts, Row, row-op, row-select, row-selectRight, row-name, row-chain, row-construct, row-insert, row-applyAll, row-condition, row-while, row-constant, row-bu, Stands, no-form, a-form, bodies}
 use Rattle.formtable.proofs.Lengths.{length-form, length-constants}
 
 -- ---- a table that goes on with l from index i
-at-front : (t : List ℕ) (i k : ℕ) (l : List ℕ) → drop i t ≡ l → getD t (i + k) 0 ≡ getD l k 0
-at-front t i k l e = sym (getD-drop i t k 0) ∙ ap (λ (x : List ℕ). getD x k 0) e
-
 behind : (t : List ℕ) (i j : ℕ) (a l : List ℕ) → i * 4 + length a ≡ j * 4 → drop (i * 4) t ≡ a ++ l → drop (j * 4) t ≡ l
 behind t i j a l z e = rw (← z, ← (drop-drop (length a) (i * 4) t), e) (drop-append-seam a l)
 

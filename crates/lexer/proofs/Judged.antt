@@ -28,7 +28,7 @@ use Rattle.lexer.specs.declared.PartJudged.the-variants as P
 use Rattle.lexer.specs.declared.NameJudged.the-variants as N
 use Rattle.lexer.specs.Classes.{testOf}
 use Rattle.lexer.specs.Readings.{Spanned, Sized}
-use Rattle.lexer.specs.Packing.{packed}
+use Rattle.language.specs.Packing.{packed}
 use Rattle.lexer.specs.Vocabulary.{opCode, codeOf}
 use Rattle.lexer.specs.Judgements.{atomVal, atomJudged, formJudged, partJudged, nameJudged, judgeSymbol, judgePlain, WordJudged}
 use Rattle.lexer.proofs.Spans.{all-yes, all-no, span-le, slice-first, slice-none}

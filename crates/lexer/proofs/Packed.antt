@@ -12,16 +12,17 @@ use lib.Dec.{leb, eqb}
 use lib.ListN.{length, getD, take, drop, set, take-append-drop, length-set}
 use lib.Seq.{slice, slice-empty, length-slice, length-take-le, take-suc-set, drop-set-lt, drop-drop}
 use Rattle.language.specs.Tokens.{isDigit, isLower, isUpper}
-use Rattle.language.specs.Judging.{all, isNameByte}
-use Rattle.language.specs.Accepted.{IsSymbol}
+use Rattle.language.specs.Judging.{all}
+use Rattle.language.specs.Accepted.{IsSymbol, IsName}
+use Rattle.language.specs.Packing.{letterOf, packed}
 use Rattle.lexer.specs.declared.Case.{Case}
 use Rattle.lexer.specs.declared.Case.the-variants.{Upper, Lower}
-use Rattle.lexer.specs.Packing.{letterOf, packed, before, byteOf, inCase, unpackedFrom, unpacked, Unpacked}
+use Rattle.lexer.specs.Packing.{before, byteOf, inCase, unpackedFrom, unpacked, Unpacked}
 use Rattle.lexer.proofs.Spans.{slice-first}
 
 -- packing
 packed-lt : (w : List ℕ) → packed w < 37 ^ length w
-unfolding packed
+unfolding packed letterOf
 packed-lt [] = omega arith
 packed-lt (b ∷ w) = let h = packed-lt w in rw (pow-suc 37 (length w)) (omega arith)
 
@@ -60,9 +61,11 @@ byte-cases Upper b h = ⊎-elim (λ e. inl (bounds 65 90 b e)) (λ e. inr (bound
 byte-cases Lower b h = ⊎-elim (λ e. inl (bounds 97 122 b e)) (λ e. inr (bounds 48 57 b e)) (either (leb 97 b && leb b 122) (leb 48 b && leb b 57) h)
 
 letter-digit : (b : ℕ) → 48 ≤ b → b ≤ 57 → letterOf b ≡ b - 21
+unfolding letterOf
 letter-digit b h k = rw (le-leb b 57 k) (omega arith)
 
 letter-letter : (case : Case) (b : ℕ) → before case + 1 ≤ b → b ≤ before case + 26 → letterOf b ≡ b - before case
+unfolding letterOf
 letter-letter Upper b h k = rw (lt-leb b 57 (omega arith), le-leb b 90 k) (omega arith)
 letter-letter Lower b h k = rw (lt-leb b 57 (omega arith), lt-leb b 90 (omega arith)) (omega arith)
 
@@ -120,8 +123,12 @@ pub symbol-back : (w : List ℕ) → IsSymbol w → unpacked Upper (packed w) �
 symbol-back [] h = absurd h
 symbol-back (b ∷ w) h = unpacked-packed Upper (b ∷ w) (rw (or-left (isUpper b) (isDigit b) (h .0)) (h .1)) (h .2)
 
-pub name-back : (b : ℕ) (w : List ℕ) → isLower b ≡ true → all isNameByte w ≡ true → length (b ∷ w) ≤ 12 → unpacked Lower (packed (b ∷ w)) ≡ b ∷ w
-name-back b w l h n = unpacked-packed Lower (b ∷ w) (rw (or-left (isLower b) (isDigit b) l) h) n
+pub name-back : (w : List ℕ) → IsName w → unpacked Lower (packed w) ≡ w
+name-back [] h = absurd h
+name-back (b ∷ w) h = unpacked-packed Lower (b ∷ w) (rw (or-left (isLower b) (isDigit b) (h .0)) (h .1)) (h .2)
+
+pub names-equal : (v w : List ℕ) → IsName v → IsName w → packed v ≡ packed w → v ≡ w
+names-equal v w i j e = sym (name-back v i) ∙ ap (unpacked Lower) e ∙ name-back w j
 
 -- the loop of `unpack`
 module _ (case : Case) (v : ℕ) (old new : List ℕ) (left i : ℕ) where

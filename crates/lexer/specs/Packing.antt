@@ -1,5 +1,5 @@
--- Words as numbers: base 37, the first letter lowest; letters count 1 to 26 in either case, digits 27 to 36.
-use Prim.Native.Nat.{ℕ, zero, suc, _+_, _-_, _*_, _/_, _%_, _≤_}
+-- Words back from their numbers, in either case.
+use Prim.Native.Nat.{ℕ, zero, suc, _+_, _/_, _%_, _≤_}
 use mathlib.Core.Path.{_≡_}
 use mathlib.Core.Bool.{Bool, cond}
 use mathlib.Core.List.{List, [], _∷_, _++_}
@@ -8,14 +8,6 @@ use lib.ListN.{length, drop}
 use Rattle.lexer.specs.declared.Case.{Case}
 use Rattle.lexer.specs.declared.Case.the-variants.{Upper, Lower}
 use Rattle.language.specs.Judging.{isSymbolByte, isNameByte}
-
--- below 37 for any byte
-abbrev pub letterOf : ℕ → ℕ
-letterOf b = cond (leb b 57) (b - 21) (cond (leb b 90) (b - 64) (b - 96)) % 37
-
-unfoldable pub packed : List ℕ → ℕ
-packed [] = 0
-packed (b ∷ w) = packed w * 37 + letterOf b
 
 -- what stands before a letter of each case
 abbrev pub before : Case → ℕ

@@ -4,7 +4,8 @@ ghost use mathlib.Core.List.{_++_};
 ghost use Prim.Native.Nat.{_+_, _≤_, _<_};
 ghost use lib.ListN.{length, drop};
 ghost use lib.Seq.{slice};
-ghost use Rattle.lexer.specs.Packing.{letterOf, byteOf, packed, unpacked, Unpacked};
+ghost use Rattle.language.specs.Packing.{letterOf, packed};
+ghost use Rattle.lexer.specs.Packing.{byteOf, unpacked, Unpacked};
 use super::Case;
 
 // A byte as a digit of a packed word.

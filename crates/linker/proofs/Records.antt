@@ -1,17 +1,17 @@
 -- Records of a form table as it was read: the parts of a form, and what a record says, in this table or in another that agrees on it.
-use Prim.Native.Nat.{ℕ, _+_, _*_, _%_, _≤_, _<_}
+use Prim.Native.Nat.{ℕ, _+_, _*_, _%_, _<_}
 use mathlib.Core.Path.{_≡_, _∙_}
 use mathlib.Core.List.{List}
 use native.Mathlib.Omega.{arith}
 use lib.ListN.{getD}
 use Rattle.language.specs.Objects.{Obj}
-use Rattle.language.specs.Forms.{Form, word, name, chain, construct, constant, insert, applyAll, bu, condition, while, Forms, stop, _&_, _+&_, count}
+use Rattle.language.specs.Forms.{Form, word, name, chain, construct, constant, insert, applyAll, bu, condition, while, Forms, stop, _&_, _+&_}
 use Rattle.language.specs.Accepted.{IsForm, AreForms}
 use Rattle.language.specs.declared.Val.{Val}
 use Rattle.cells.specs.Cells.{Rep}
 use Rattle.cells.proofs.Reps.{val-same}
 use Rattle.cells.proofs.Inversions.{tag-low}
-use Rattle.formtable.specs.Standing.{kindAt, arityAt, wordAt, parts, Row, row-op, row-select, row-selectRight, row-name, row-chain, row-construct, row-insert, row-applyAll, row-condition, row-while, row-constant, row-bu, Stands, no-form, a-form}
+use Rattle.formtable.specs.Standing.{kindAt, arityAt, wordAt, parts, Row, row-op, row-select, row-selectRight, row-name, row-chain, row-construct, row-insert, row-applyAll, row-condition, row-while, row-constant, row-bu}
 use Rattle.linker.specs.Linked.{constantAt}
 
 -- ---- the parts of a form
@@ -31,25 +31,7 @@ pub both-formed : (fs gs : Forms) → AreForms fs → AreForms gs → AreForms (
 both-formed stop gs a b = b
 both-formed (f & fs) gs a b = (a .0, both-formed fs gs (a .1) b)
 
-pub stands-up : {t C : List ℕ} {n i e : ℕ} {fs : Forms} → Stands t C n i fs e → i ≤ e
-stands-up no-form = omega arith
-stands-up (a-form r s) = let h = stands-up s in omega arith
-
 -- ---- one record
-pub arity-of : {t C : List ℕ} {n i : ℕ} {f : Form} → Row t C n i f → arityAt t i ≡ count (parts f)
-arity-of (row-op a b c) = b
-arity-of (row-select a b c) = b
-arity-of (row-selectRight a b c) = b
-arity-of (row-name a b c) = b
-arity-of (row-chain a b c) = b
-arity-of (row-construct a b c) = b
-arity-of (row-insert a b c) = b
-arity-of (row-applyAll a b c) = b
-arity-of (row-condition a b c) = b
-arity-of (row-while a b c) = b
-arity-of (row-constant a b c r) = b
-arity-of (row-bu a b c r) = b
-
 -- the constant of a record whose kind is k, 12 or 16, and the tag
 pub constant-of : {C : List ℕ} {n : ℕ} (t : List ℕ) (i k : ℕ) (v : Val) {x : Obj} → k % 4 ≡ 0 → kindAt t i ≡ k + v .tag → wordAt t i ≡ v .word → Rep C n v x → Rep C n (constantAt t i) x
 constant-of t i k v z a c r = let l = tag-low r in rw (val-same (constantAt t i) v (omega arith) c) r

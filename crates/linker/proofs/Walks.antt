@@ -21,7 +21,8 @@ use Rattle.linker.specs.Linked.{grouped, kindAt, linkAt}
 use Rattle.linker.specs.Roots.{named, rootFrom, rootIn, linkSet}
 use Rattle.linker.specs.Linking.{Row, row-op, row-select, row-select-right, row-name, row-construct, row-insert, row-all, row-condition, row-while, row-constant, row-bu, Tree, tree, tree-chain, Kids, no-kid, a-kid, Back, no-back, a-back, Walked, Before, Reversed, OneLinked, AllLinked}
 use Rattle.linker.proofs.Trees.{Keeps, forms-end, forms-join, tree-up, kids-up, back-up, tree-small, constant-kept, tree-kept, kids-kept, back-kept}
-use Rattle.linker.proofs.Records.{parts-formed, both-formed, stands-up, arity-of, constant-of, row-same}
+use Rattle.formtable.proofs.Standing.{stands-up, arity-of}
+use Rattle.linker.proofs.Records.{parts-formed, both-formed, constant-of, row-same}
 
 -- ---- one link set
 link-other : (t : List ℕ) (i link k : ℕ) → (k ≡ i * 4 → ⊥) → getD (linkSet t i link) k 0 ≡ getD t k 0

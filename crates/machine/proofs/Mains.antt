@@ -14,14 +14,14 @@ use Rattle.language.specs.declared.Meter.{Meter}
 use Rattle.language.specs.declared.Val.{Val}
 use Rattle.tables.specs.Tables.{put}
 use Rattle.cells.specs.Cells.{free}
-use Rattle.formtable.specs.Encoding.{encodeDefinitions}
+use Rattle.formtable.specs.Encoding.{programOf, encodeDefinitions}
 use Rattle.formtable.specs.Standing.{bodies}
 use Rattle.primitives.specs.declared.Ended.{Ended}
 use Rattle.linker.specs.Linked.{DefAt}
 use Rattle.linker.specs.Roots.{rootFrom, rootIn}
 use Rattle.linker.specs.Linking.{AllLinked}
 use Rattle.evaluator.specs.Applying.{Ran}
-use Rattle.machine.specs.Mains.{programOf, Loaded, MainApplied}
+use Rattle.machine.specs.Mains.{Loaded, MainApplied}
 use Rattle.machine.proofs.Roots.{roots}
 
 -- the word `main` as the code has it

@@ -14,14 +14,13 @@ use Rattle.language.specs.Evaluation.{lookup}
 use Rattle.language.specs.Packing.{packed}
 use Rattle.language.specs.Reading.{Placed}
 use Rattle.tables.specs.Tables.{field}
-use Rattle.formtable.specs.Encoding.{lowOf, highOf, encodeDefinitions}
+use Rattle.formtable.specs.Encoding.{lowOf, highOf, programOf, encodeDefinitions}
 use Rattle.formtable.specs.Standing.{parts, bodies}
+use Rattle.formtable.proofs.Names.{name-test-back}
 use Rattle.linker.specs.Linked.{FormAt, DefAt, no-def, a-def}
 use Rattle.linker.specs.Roots.{named, rootFrom}
 use Rattle.linker.specs.Linking.{Tree, tree, tree-chain, Kids, no-kid, a-kid, Back, no-back, a-back}
 use Rattle.linker.proofs.Trees.{form-of, tree-small}
-use Rattle.machine.specs.Mains.{programOf}
-use Rattle.machine.proofs.Names.{name-test}
 
 -- ---- a form takes up as many records as it has forms
 forms-by-parts : (f : Form) → formsIn f ≡ suc (formsInAll (parts f))
@@ -76,7 +75,7 @@ module _ (F C : List ℕ) (n : ℕ) (root : List ℕ → ℕ) (D w : List ℕ) (
   -- the first definition: its root if it has the name, else what the others say
   one-root : (d r left : ℕ) (q : Def) (P : Prog) (l : List ℕ) → IsName (q .called) → Front D d (lowOf (packed (q .called))) (highOf (packed (q .called))) r l → r < 2048 → FormAt F C n root r (q .body) → DefAt F C n root (found left (d + 1)) (lookup w P) → DefAt F C n root (found (suc left) d) (lookup w (q ∷ P))
   unfolding rootFrom named
-  one-root d r left q P l j a s f h = rw (a .low, a .high, name-test (q .called) w j i) (go (sameBytes w (q .called)) refl)
+  one-root d r left q P l j a s f h = rw (a .low, a .high, name-test-back (q .called) w j i) (go (sameBytes w (q .called)) refl)
     where
       go : (t : Bool) → sameBytes w (q .called) ≡ t → DefAt F C n root (cond (sameBytes w (q .called)) ((field D d 2 + 1) % 4294967296) (found left (d + 1))) (lookup w (q ∷ P))
       go true e = rw (e, lookup, a .body) (a-def {d = (r + 1) % 4294967296} {i = r} (omega arith) f)

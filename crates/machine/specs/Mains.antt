@@ -1,10 +1,10 @@
 -- What applying `main` answers, where a program stands in the tables: its forms in T, its definitions in D, its constants in C.
 use Prim.Native.Nat.{ℕ, _*_, _≤_}
 use mathlib.Core.Path.{_≡_}
-use mathlib.Core.List.{List, map}
+use mathlib.Core.List.{List}
 use lib.ListN.{length}
 use Rattle.language.specs.Objects.{Obj}
-use Rattle.language.specs.Forms.{Prog, mainForm}
+use Rattle.language.specs.Forms.{mainForm}
 use Rattle.language.specs.Accepted.{AreDefinitions}
 use Rattle.language.specs.Reading.{Placed}
 use Rattle.language.specs.Meanings.{one}
@@ -13,13 +13,10 @@ use Rattle.language.specs.declared.Meter.{Meter}
 use Rattle.language.specs.declared.Val.{Val}
 use Rattle.tables.specs.Tables.{put}
 use Rattle.cells.specs.Cells.{Rep, Room, free}
-use Rattle.formtable.specs.Encoding.{encodeDefinitions}
+use Rattle.formtable.specs.Encoding.{programOf, encodeDefinitions}
 use Rattle.formtable.specs.Standing.{Stands, bodies}
 use Rattle.primitives.specs.declared.Ended.{Ended}
 use Rattle.primitives.specs.Ends.{Gives}
-
-abbrev pub programOf : List Placed → Prog
-programOf placed = map (λ (d : Placed). d .def) placed
 
 -- the program of these definitions stands: `total` forms from record 0 on, and a record for each of its `many` definitions
 pub record Loaded (placed : List Placed) (T : List ℕ) (total : ℕ) (D : List ℕ) (many : ℕ) (C : List ℕ) (m : Meter) : Type 0 where

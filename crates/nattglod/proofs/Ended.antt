@@ -1,24 +1,20 @@
 -- The end of an application and the answer of the run: 20 to 26, with the steps and cells counted.
-use Prim.Native.Nat.{ℕ, _-_, _<_}
+use Prim.Native.Nat.{ℕ, _-_}
 use mathlib.Core.Path.{_≡_, refl}
 use mathlib.Core.List.{List}
-use native.Mathlib.Omega.{arith}
 use Rattle.language.specs.Objects.{Obj}
 use Rattle.language.specs.Evaluation.{Out, noStep, noName, noCell, counted}
 use Rattle.language.specs.Answers.{counting}
 use Rattle.language.specs.declared.Meter.{Meter}
 use Rattle.language.specs.declared.Answer.{Answer}
 use Rattle.language.specs.declared.Val.{Val}
-use Rattle.cells.specs.Cells.{Room, free}
+use Rattle.cells.specs.Cells.{free}
 use Rattle.primitives.specs.declared.Ended.{Ended}
 use Rattle.primitives.specs.declared.Ended.the-variants.{Done, Stop}
 use Rattle.primitives.specs.Ends.{Gives, gives-value, gives-bottom, gives-spent}
+use Rattle.primitives.proofs.Ending.{free-under}
 use Rattle.nattglod.specs.Calls.{lends, EndAnswered}
 use Rattle.nattglod.specs.Stages.{EndMet, WrittenAnswered}
-
--- the free cells are few enough to be written from
-few-free : (C : List ℕ) (m : Meter) → Room C m → free C m < 4294967296
-few-free C m h = let l = h .small in omega arith
 
 module _ {b : Meter} {output : List ℕ} where
   stopped : {C C′ : List ℕ} {m k : Meter} {n : ℕ} (forms cells : List ℕ) {o : Out Obj} → Gives C m C′ o (Stop n k)
@@ -34,7 +30,7 @@ module _ {b : Meter} {output : List ℕ} where
   wrote : {C C′ : List ℕ} {m k : Meter} {v : Val} {output′ : List ℕ} {r : Answer} (forms cells : List ℕ) {o : Out Obj} → Gives C m C′ o (Done v k)
       → WrittenAnswered C′ v (b .steps - k .steps) (b .cells - k .cells) output r output′ → EndAnswered b (lends forms cells output) o r output′
   wrote {C′ = C′} {k = k} forms cells (gives-value {x = x} M) W =
-      let l = few-free C′ k (M .room) in
+      let l = free-under C′ k (M .room) in
       record { answer = W .answer (free C′ k) x forms cells l (M .rep); outputAfter = W .outputAfter (free C′ k) x forms cells l (M .rep) }
 
   pub end-wrote : {C′ : List ℕ} {e : Ended} {s c : ℕ} {v : Val} {k : Meter} {output′ : List ℕ} {r : Answer} → e ≡ Done v k → s ≡ b .steps - k .steps → c ≡ b .cells - k .cells

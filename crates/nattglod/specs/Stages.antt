@@ -14,10 +14,11 @@ use Rattle.language.specs.declared.Meter.{Meter}
 use Rattle.language.specs.declared.Answer.{Answer}
 use Rattle.language.specs.declared.Val.{Val}
 use Rattle.cells.specs.Cells.{Rep, Room, free}
+use Rattle.formtable.specs.Encoding.{programOf}
 use Rattle.primitives.specs.declared.Ended.{Ended}
 use Rattle.primitives.specs.Ends.{Gives}
 use Rattle.programs.specs.Definitions.{ProgramLaid}
-use Rattle.machine.specs.Mains.{programOf, Loaded}
+use Rattle.machine.specs.Mains.{Loaded}
 use Rattle.nattglod.specs.Calls.{budgets, lends, TextsAnswered, EndAnswered}
 
 -- the last of the early refusals, by the budgeted cells and the lengths of both tables

@@ -6,7 +6,7 @@ use native.Mathlib.Nat.{add-zero, zero-add}
 use native.Mathlib.Omega.{arith}
 use borrow.Author.Tests.{eq-eqb, ne-eqb}
 use lib.IntN.{pos, negsuc}
-use lib.ListN.{length, length-append}
+use lib.ListN.{length}
 use lib.Seq.{slice, slice-empty}
 use Rattle.language.specs.Objects.{Obj, int, symbol, seq, Objs, nil, _::_, lengthOf, cellsOf, cellsOfAll}
 use Rattle.language.specs.Tokens.{byteAt, placeFrom, sizeAt}
@@ -26,12 +26,12 @@ use Rattle.lexer.specs.Readings as L
 use Rattle.lexer.specs.Judgements.{atomVal, atomJudged}
 use Rattle.lexer.specs.declared.AtomJudged.{AtomJudged}
 use Rattle.lexer.specs.declared.AtomJudged.the-variants as A
+use Rattle.cells.proofs.Encoded.{length-cells, length-places}
 use Rattle.objects.specs.Readings.{ReadMeets, reads, refuses, Goes, Ahead, AtomReading, ObjectReading, placeCells, PlaceMeets, no-place, last-place, more-places, PlaceReading, PlacesMeet, all-read, not-read, PlacesFrom, PlacesReading, WholeReading}
 use Rattle.objects.specs.declared.ObjectRead.{ObjectRead}
 use Rattle.objects.specs.declared.ObjectRead.the-variants as O
 use Rattle.objects.specs.declared.PlaceRead.{PlaceRead}
 use Rattle.objects.specs.declared.PlaceRead.the-variants as P
-use Rattle.objects.proofs.Symbols.{packed-is}
 
 -- a mark stands within the text
 pub inside : (s : List ℕ) (p b m : ℕ) → b ≡ byteAt s p → b ≡ m → 1 ≤ m → p + 1 ≤ length s
@@ -56,27 +56,11 @@ later {s} {at} {p} {used} l h = record { ends = λ v e n f. go e n (h .ends v e 
     go e n g = record { behind = omega (arith, g .behind); inside = g .inside; more = g .more; few = omega (arith, g .few) }
 
 -- ---- cells
-mutual
-  unfolding cellsFrom
-
-  cells-long : (x : Obj) (c : ℕ) → length (cellsFrom c x) ≡ cellsOf x * 4
-  cells-long (int z) c = refl
-  cells-long (symbol w) c = refl
-  cells-long (seq xs) c = places-long xs c
-
-  places-long : (xs : Objs) (c : ℕ) → length (placesFrom c xs) ≡ cellsOfAll xs * 4
-  places-long nil c = refl
-  places-long (x :: xs) c =
-      let a = cells-long x (c + 1) in
-      let b = places-long xs (c + 1 + cellsOf x) in
-      let e = length-append (cellsFrom (c + 1) x) (placesFrom (c + 1 + cellsOf x) xs) in
-      omega arith
-
 -- a place's cell is put before the cells of the object there
 module _ (C : List ℕ) (c : ℕ) (x : Obj) (next : ℕ) {C₁ C₂ : List ℕ} (v : Val) where
   place-put : v ≡ valOf (c + 1) x → length C₁ ≡ length C → ((c + 1 + cellsOf x) * 4 ≤ length C → C₁ ≡ put C ((c + 1) * 4) (cellsFrom (c + 1) x)) → C₂ ≡ cellPut C₁ c v next → (c + 1 + cellsOf x) * 4 ≤ length C → C₂ ≡ put C (c * 4) (placeCells c x next)
   place-put e l f g room =
-      let n = cells-long x (c + 1) in
+      let n = length-cells x (c + 1) in
       let i : (c + 1) * 4 ≡ c * 4 + 4 = omega arith in
       g ∙ record-fits C₁ c (v .tag) next (v .word % 4294967296) (v .word / 4294967296) (omega arith)
       ∙ ap (λ (y : List ℕ). put y (c * 4) (cell v next)) (rw i at (f room)) ∙ rw e (put-before C (c * 4) (cell (valOf (c + 1) x) next) (cellsFrom (c + 1) x) (omega arith))
@@ -85,7 +69,7 @@ module _ (C : List ℕ) (c : ℕ) (x : Obj) (next : ℕ) {C₁ C₂ : List ℕ} 
 atom-val : (x : Obj) (c : ℕ) → marksOfObj x ≤ 0 → atomVal x ≡ valOf c x
 atom-val (int (pos k)) c h = refl
 atom-val (int (negsuc k)) c h = refl
-atom-val (symbol w) c h = ap (λ (n : ℕ). record { tag = 2; word = n }) (packed-is w)
+atom-val (symbol w) c h = refl
 atom-val (seq xs) c h = absurd (omega arith)
 
 atom-cells : (x : Obj) → marksOfObj x ≤ 0 → cellsOf x ≡ 0
@@ -323,8 +307,8 @@ module _ (first n c : ℕ) (x : Obj) (C C₂ : List ℕ) (r : ObjectRead) (C′ 
   place-then l h _ (all-read {x = y} {xs = ys} {e = e} f p) =
       let d = c + 1 + cellsOf x in
       let a = placeCells c x (d + 1) in
-      let n₁ = cells-long x (c + 1) in
-      let n₂ = places-long (y :: ys) d in
+      let n₁ = length-cells x (c + 1) in
+      let n₂ = length-places (y :: ys) d in
       let i : d * 4 ≡ c * 4 + length a = omega arith in
       let q₁ : n + 1 + suc (lengthOf ys) ≡ n + suc (suc (lengthOf ys)) = omega arith in
       let q₂ : d + cellsOfAll (y :: ys) ≡ c + cellsOfAll (x :: y :: ys) = omega arith in

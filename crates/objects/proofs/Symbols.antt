@@ -1,32 +1,25 @@
 -- Symbols: what was packed is walked over as it was written, and an atom is held as the reader's cells hold it.
 use Prim.Native.Nat.{ℕ}
-use mathlib.Core.Path.{_≡_, refl, ap, sym, _∙_}
+use mathlib.Core.Path.{_≡_, ap, _∙_}
 use mathlib.Core.Bool.{true}
-use mathlib.Core.List.{List, [], _∷_, _++_}
+use mathlib.Core.List.{List, _++_}
 use native.Mathlib.Omega.{arith}
 use lib.ListN.{take, drop}
 use lib.Seq.{slice, take-append-seam}
 use Rattle.language.specs.Tokens.{isDigit, isUpper}
 use Rattle.language.specs.Judging.{isSymbolByte}
 use Rattle.language.specs.Accepted.{IsSymbol}
-use Rattle.language.specs.Packing.{letterOf, packed}
+use Rattle.language.specs.Packing.{packed}
 use Rattle.theorems.proofs.Texts.{all-weaken, digit-range, upper-range, or-cases}
 use Rattle.cells.proofs.Packing.{symbol-bytes}
 use Rattle.lexer.specs.declared.Case.the-variants.{Upper}
 use Rattle.lexer.specs.Packing.{unpacked, Unpacked}
-use Rattle.lexer.specs.Packing.{packed as lexerPacked}
 use Rattle.lexer.proofs.Packed.{symbol-back}
 use Rattle.objects.specs.Writings.{isFlat, TextWalked, SymbolWalked}
 use Rattle.objects.specs.declared.Written.{Written}
 use Rattle.objects.proofs.Walks.{flat-is}
 
--- the lexer packs as the definitions do
-pub packed-is : (w : List ℕ) → lexerPacked w ≡ packed w
-unfolding packed lexerPacked letterOf
-packed-is [] = refl
-packed-is (b ∷ w) = rw (packed-is w)
-
-symbol-flat : (b : ℕ) → isSymbolByte b ≡ true → isFlat b ≡ true
+pub symbol-flat : (b : ℕ) → isSymbolByte b ≡ true → isFlat b ≡ true
 symbol-flat b h =
     or-cases (isUpper b) (isDigit b) (isFlat b)
     (λ u. let r = upper-range b u in let lo = r .0 in flat-is b (λ e. omega arith) (λ e. omega arith))
@@ -37,5 +30,5 @@ symbol-walk {word} {n} {at} {cap} {a} {a₁} u w = record { within = w .within; 
   where
     same : (v : List ℕ) → IsSymbol v → word ≡ packed v → slice 0 n a₁ ≡ v
     same v i e =
-        let b : unpacked Upper word ≡ v = ap (λ (q : ℕ). unpacked Upper q) (e ∙ sym (packed-is v)) ∙ symbol-back v i in
+        let b : unpacked Upper word ≡ v = ap (λ (q : ℕ). unpacked Upper q) e ∙ symbol-back v i in
         ap (λ (x : List ℕ). take n x) (u .bytes) ∙ ap (λ (q : ℕ). take q (unpacked Upper word ++ drop n a)) (u .size) ∙ take-append-seam (unpacked Upper word) (drop n a) ∙ b

@@ -56,7 +56,7 @@ module _ (b : ℕ) (l : List ℕ) (d r : ℕ) (other : b ≡ 60 → ⊥) where
   scan-next e = rw (ne-eqb b 60 other, ne-eqb r 0 (omega arith))
 
 -- bytes that open and close nothing
-flat-of : (b : ℕ) → isFlat b ≡ true → (b ≡ 60 → ⊥) × (b ≡ 62 → ⊥)
+pub flat-of : (b : ℕ) → isFlat b ≡ true → (b ≡ 60 → ⊥) × (b ≡ 62 → ⊥)
 unfolding isFlat
 flat-of b h =
     let x = and-eq-true-iff (not (eqb b 60)) (not (eqb b 62)) .0 h in

@@ -39,7 +39,7 @@ module _ (text : List ℕ) (from to : ℕ) {at cap : ℕ} {out out′ : List ℕ
         means = λ d f. flat-walk l (omega arith) (ap (λ (x : ℕ). W.Done (at + x)) (sym n)) (p .is) d f;
       }
 
-digit-flat : (b : ℕ) → isDigit b ≡ true → isFlat b ≡ true
+pub digit-flat : (b : ℕ) → isDigit b ≡ true → isFlat b ≡ true
 digit-flat b h = let r = digit-range b h in flat-is b (λ e. omega (arith, r .1)) (λ e. omega (arith, r .1))
 
 pub decimal-walk : {n first at cap : ℕ} {a : List ℕ} {r : Written} {out out′ : List ℕ} → DigitsAt n first a → length a ≡ 20 → TextWalked (slice first 20 a) at cap r out out′ → DecimalWalked n at cap r out out′

@@ -17,6 +17,7 @@ use Rattle.language.proofs.Charging.{cells-granted, cells-spent}
 use Rattle.cells.specs.Cells.{Room, free}
 use Rattle.cells.proofs.Reps.{free-is}
 use Rattle.lexer.specs.Vocabulary.{opCode, ruleCode, ruleAt}
+use Rattle.lexer.proofs.Words.{rule-of}
 use Rattle.equality.proofs.Comparisons.{meter-same}
 use Rattle.primitives.specs.Asking.{CellsAsked, Clipped, Reserves, reserved, too-few, Reserving}
 use Rattle.primitives.specs.declared.Reserved.the-variants.{At, Short}
@@ -82,32 +83,6 @@ pub product-fits : (w n : ℕ) → w < 4294967296 → n < 4294967296 → w * n <
 product-fits w n h k = omega (arith, rows-fit w n h k)
 
 -- ---- asking
-rule-of : (o : Op) → ruleAt (opCode o) ≡ ruleCode (entry o .rule)
-unfolding opCode ruleAt
-rule-of Op.id = refl
-rule-of Op.tl = refl
-rule-of Op.atom = refl
-rule-of Op.null = refl
-rule-of Op.eq = refl
-rule-of Op.lt = refl
-rule-of Op.length = refl
-rule-of Op.add = refl
-rule-of Op.sub = refl
-rule-of Op.mul = refl
-rule-of Op.div = refl
-rule-of Op.and = refl
-rule-of Op.or = refl
-rule-of Op.not = refl
-rule-of Op.apndl = refl
-rule-of Op.tlr = refl
-rule-of Op.reverse = refl
-rule-of Op.rotl = refl
-rule-of Op.rotr = refl
-rule-of Op.apndr = refl
-rule-of Op.distl = refl
-rule-of Op.distr = refl
-rule-of Op.trans = refl
-
 asked-is : {rule code n w x : ℕ} (o : Op) → opCode o ≡ code → rule ≡ ruleAt code → CellsAsked rule n w x → x ≡ cellsBy (entry o .rule) n w
 asked-is o e f g = g .means (entry o .rule) (sym (rule-of o) ∙ (ap ruleAt e ∙ sym f))
 

@@ -14,8 +14,8 @@ use Rattle.language.specs.declared.Meter.{Meter}
 use Rattle.language.specs.declared.Val.{Val}
 use Rattle.cells.specs.Cells.{Rep, rep-pos, rep-neg, rep-symbol, rep-nil, rep-more, free}
 use Rattle.cells.specs.Parts.{Sized, Tailed, Nth, nthObj}
+use Rattle.cells.proofs.Lengths.{rep-length}
 use Rattle.arithmetic.specs.Integers.{Holds, holds-pos}
-use Rattle.sequences.proofs.Counts.{few-places}
 use Rattle.primitives.specs.Ends.{Leaf}
 use Rattle.primitives.specs.Leaves.{Plain}
 use Rattle.primitives.specs.declared.Ended.the-variants.{Done, Stop}
@@ -179,6 +179,6 @@ length-is {v} {r} {m} {n} h s g = record {
         let u = free-under C m o in
         let e : n ≡ lengthOf (q .places) = s .means C (free C m) (q .places) u (q .rep) in
         let f : Holds r (pos (lengthOf (q .places))) = rw e at g in
-        rw (q .is) (end-plain (int (pos (lengthOf (q .places)))) o refl (count-rep C (free C m) (lengthOf (q .places)) f (omega (arith, few-places (q .places) u (q .rep), free-low C m o))));
+        rw (q .is) (end-plain (int (pos (lengthOf (q .places)))) o refl (count-rep C (free C m) (lengthOf (q .places)) f (omega (arith, rep-length (q .places) (q .rep), free-low C m o))));
   };
 }

@@ -7,17 +7,14 @@ use native.Mathlib.Omega.{arith}
 use lib.Dec.{eqb, ltb}
 use lib.IntN.{ℤ, pos, negsuc}
 use borrow.Author.Tests.{le-ltb, lt-ltb, ltb-true, eq-eqb, ne-eqb, not-true, not-false}
-use Rattle.language.specs.Bytes.{bytes}
-use Rattle.language.specs.Objects.{Obj, int, symbol, seq, Objs, nil, _::_, lengthOf, truth, isT, isF, neither, truthOf}
-use Rattle.language.specs.Accepted.{IsSymbol}
-use Rattle.language.specs.Packing.{packed, letterOf}
+use Rattle.language.specs.Objects.{Obj, int, symbol, seq, Objs, nil, _::_, lengthOf, truth}
 use Rattle.language.specs.Meanings.{WordAnswer, falls, onPair, isAtom, isNull}
 use Rattle.language.specs.declared.Val.{Val}
 use Rattle.cells.specs.Cells.{Rep, rep-pos, rep-neg, rep-symbol, rep-nil, rep-more}
 use Rattle.cells.specs.Parts.{Sized, Headed, Tailed}
-use Rattle.cells.proofs.Packing.{symbols-same}
+use Rattle.cells.proofs.Compared.{rep-T, rep-F}
+use Rattle.cells.proofs.Compared as compared
 use Rattle.arithmetic.specs.Integers.{Holds, holds-pos, holds-neg, Short, Small}
-use Rattle.equality.proofs.Comparisons.{other-bytes, packed-as}
 use Rattle.primitives.specs.Shapes.{IsTwo, are-two, not-two, ReadTwo, isIntegerVal, truthVal, truthCode, ReadTruth, ReadAtom, ReadNull}
 use Rattle.primitives.specs.declared.Two.the-variants.{Both, Other}
 
@@ -118,73 +115,21 @@ truth-t e f = rw e f
 pub truth-f : {b : Bool} {v : Val} → b ≡ false → v ≡ record { tag = 2; word = 6 } → v ≡ truthVal b
 truth-f e f = rw e f
 
-packed-t : packed (bytes "T") ≡ 20
-unfolding packed letterOf
-packed-t = refl
-
-packed-f : packed (bytes "F") ≡ 6
-unfolding packed letterOf
-packed-f = refl
-
-symbol-t : IsSymbol (bytes "T")
-symbol-t = (refl, refl, omega arith)
-
-symbol-f : IsSymbol (bytes "F")
-symbol-f = (refl, refl, omega arith)
-
 pub truth-rep : (C : List ℕ) (n : ℕ) {v : Val} (b : Bool) → v ≡ truthVal b → Rep C n v (truth b)
-truth-rep C n true e = rw e (rep-symbol refl symbol-t (sym packed-t))
-truth-rep C n false e = rw e (rep-symbol refl symbol-f (sym packed-f))
-
--- what T, F and other symbols are
-truth-is-t : (s : List ℕ) → s ≡ bytes "T" → truthOf (symbol s) ≡ isT
-truth-is-t s e = rw e
-
-truth-is-f : (s : List ℕ) → s ≡ bytes "F" → truthOf (symbol s) ≡ isF
-truth-is-f s e = rw e
-
-truth-not : (s : List ℕ) → (s ≡ bytes "T" → ⊥) → (s ≡ bytes "F" → ⊥) → truthOf (symbol s) ≡ neither
-truth-not s h k = rw (other-bytes s (bytes "T") h, truthOf, other-bytes s (bytes "F") k)
+truth-rep C n true e = rw e rep-T
+truth-rep C n false e = rw e rep-F
 
 pub truth-none : {v : Val} → (v .tag ≡ 2 → ⊥) → ReadTruth v 2
-truth-none {v} h = record { means = go }
-  where
-    go : (C : List ℕ) (n : ℕ) (x : Obj) → Rep C n v x → 2 ≡ truthCode (truthOf x)
-    go C n x (rep-pos t e b) = refl
-    go C n x (rep-neg t e b) = refl
-    go C n x (rep-symbol t i e) = absurd (h t)
-    go C n x (rep-nil t e) = refl
-    go C n x (rep-more t e l a b) = refl
+truth-none h = record { means = λ C n x r. sym (ap truthCode (compared.truth-other h r)) }
 
 pub truth-read-t : {v : Val} → v .tag ≡ 2 → v .word ≡ 20 → ReadTruth v 1
-truth-read-t {v} h w = record { means = go }
-  where
-    go : (C : List ℕ) (n : ℕ) (x : Obj) → Rep C n v x → 1 ≡ truthCode (truthOf x)
-    go C n x (rep-pos t e b) = absurd (omega arith)
-    go C n x (rep-neg t e b) = absurd (omega arith)
-    go C n x (rep-symbol {w = s} t i e) = sym (ap truthCode (truth-is-t s (symbols-same s (bytes "T") i symbol-t (sym e ∙ (w ∙ sym packed-t)))))
-    go C n x (rep-nil t e) = absurd (omega arith)
-    go C n x (rep-more t e l a b) = absurd (omega arith)
+truth-read-t h w = record { means = λ C n x r. sym (ap truthCode (compared.truth-T h w r)) }
 
 pub truth-read-f : {v : Val} → v .tag ≡ 2 → v .word ≡ 6 → ReadTruth v 0
-truth-read-f {v} h w = record { means = go }
-  where
-    go : (C : List ℕ) (n : ℕ) (x : Obj) → Rep C n v x → 0 ≡ truthCode (truthOf x)
-    go C n x (rep-pos t e b) = absurd (omega arith)
-    go C n x (rep-neg t e b) = absurd (omega arith)
-    go C n x (rep-symbol {w = s} t i e) = sym (ap truthCode (truth-is-f s (symbols-same s (bytes "F") i symbol-f (sym e ∙ (w ∙ sym packed-f)))))
-    go C n x (rep-nil t e) = absurd (omega arith)
-    go C n x (rep-more t e l a b) = absurd (omega arith)
+truth-read-f h w = record { means = λ C n x r. sym (ap truthCode (compared.truth-F h w r)) }
 
 pub truth-other : {v : Val} → v .tag ≡ 2 → (v .word ≡ 20 → ⊥) → (v .word ≡ 6 → ⊥) → ReadTruth v 2
-truth-other {v} h wt wf = record { means = go }
-  where
-    go : (C : List ℕ) (n : ℕ) (x : Obj) → Rep C n v x → 2 ≡ truthCode (truthOf x)
-    go C n x (rep-pos t e b) = refl
-    go C n x (rep-neg t e b) = refl
-    go C n x (rep-symbol {w = s} t i e) = sym (ap truthCode (truth-not s (λ f. wt (e ∙ (packed-as f ∙ packed-t))) (λ f. wf (e ∙ (packed-as f ∙ packed-f)))))
-    go C n x (rep-nil t e) = refl
-    go C n x (rep-more t e l a b) = refl
+truth-other h wt wf = record { means = λ C n x r. sym (ap truthCode (compared.truth-neither wt wf r)) }
 
 -- ---- atoms
 pub atom-yes : {v : Val} → (v .tag ≡ 3 → ⊥) → ReadAtom v true

@@ -6,7 +6,8 @@ use lib.ListN.{length}
 use Rattle.language.specs.Objects.{Obj}
 use Rattle.language.specs.Forms.{Word}
 use Rattle.language.specs.Meanings.{one, meaning}
-use Rattle.language.specs.Evaluation.{Out, value, bottom, spent, Spent, noStep, noName, noCell, charged}
+use Rattle.language.specs.Evaluation.{Out, value, bottom, spent, Spent, charged}
+use Rattle.language.specs.Answers.{spentNumber}
 use Rattle.language.specs.declared.Meter.{Meter}
 use Rattle.language.specs.declared.Val.{Val}
 use Rattle.cells.specs.Cells.{Rep, Same, Room, free}
@@ -20,12 +21,6 @@ pub record Made (C : List ℕ) (m : Meter) (x : Obj) (v : Val) (m′ : Meter) (C
   pub room : Room C′ m′
   pub fewer : m′ .cells ≤ m .cells
   pub long : length C′ ≡ length C
-
--- the answer table's number for a spent budget
-abbrev pub spentNumber : Spent → ℕ
-spentNumber noStep = 22
-spentNumber noName = 23
-spentNumber noCell = 24
 
 -- The same steps and cells are left. The names that are open do not matter any more where a run stops.
 pub record Agree (m m′ : Meter) : Type 0 where

@@ -2,26 +2,28 @@
 use Prim.Native.Nat.{ℕ, suc, _+_, _-_, _≤_, _<_}
 use Prim.Native.Char.{code}
 use mathlib.Core.Path.{_≡_, refl, ap, sym, _∙_}
-use mathlib.Core.Bool.{Bool, true, false, cond, not, _&&_, and-eq-true-iff}
+use mathlib.Core.Bool.{Bool, true, false, cond, _&&_, and-eq-true-iff}
 use mathlib.Core.List.{List, [], _∷_, _++_, append-assoc, append-nil}
 use native.Mathlib.Omega.{arith}
-use borrow.Author.Tests.{eq-eqb, ne-eqb, lt-leb, eqb-true}
+use borrow.Author.Tests.{ne-eqb, lt-leb, eqb-true}
 use lib.Dec.{leb, eqb}
 use lib.IntN.{ℤ, pos, negsuc}
 use lib.ListN.{length}
 use Rattle.language.specs.Objects.{Obj, int, symbol, seq, Objs, nil, _::_}
-use Rattle.language.specs.Tokens.{isDigit, isUpper}
+use Rattle.language.specs.Tokens.{isDigit}
 use Rattle.language.specs.Judging.{all, isSymbolByte}
 use Rattle.language.specs.Accepted.{IsObj, AreObjs}
 use Rattle.language.specs.Writing.{decimal, writeInteger, writeObj, writeObjs, writeMoreObjs, marksOfObj, marksOfObjs, short, deep, scan, openBehind}
 use Rattle.language.specs.declared.Val.{Val}
-use Rattle.theorems.proofs.Texts.{all-weaken, digit-range, upper-range, or-cases}
+use Rattle.theorems.proofs.Texts.{all-weaken}
 use Rattle.theorems.proofs.Decimals.{decimal-digits}
 use Rattle.cells.specs.Cells.{Rep}
 use Rattle.cells.proofs.Packing.{symbol-bytes}
 use Rattle.cells.proofs.Inversions.{rep-object}
 use Rattle.objects.specs.Writings.{Walked, fits, too-long, too-deep, isFlat, ObjectWalked}
-use Rattle.objects.proofs.Walks.{flat-is}
+use Rattle.objects.proofs.Walks.{flat-of}
+use Rattle.objects.proofs.Symbols.{symbol-flat}
+use Rattle.objects.proofs.Writes.{digit-flat}
 use Rattle.objects.specs.declared.Written.{Written}
 use Rattle.objects.specs.declared.Written.the-variants as O
 use Rattle.program_writer.specs.Walks.{Wrote, ConstantWalked}
@@ -61,15 +63,6 @@ open-later s d r h e = go (eqb r 0) (rw (lt-leb 32 d h) at e)
     go false q = record { room = r - 1; is = q }
 
 -- bytes that open and close nothing
-flat-of : (b : ℕ) → isFlat b ≡ true → (b ≡ 60 → ⊥) × (b ≡ 62 → ⊥)
-unfolding isFlat
-flat-of b h =
-    let x = and-eq-true-iff (not (eqb b 60)) (not (eqb b 62)) .0 h in
-    (λ e. bad (rw (eq-eqb b 60 e) at (x .0)), λ e. bad (rw (eq-eqb b 62 e) at (x .1)))
-  where
-    bad : _≡_ {A = Bool} false true → ⊥
-    bad z = let y : _≡_ {A = ℕ} 0 1 = cc in omega arith
-
 flat-next : (b : ℕ) (s : List ℕ) (d r : ℕ) → (b ≡ 60 → ⊥) → (b ≡ 62 → ⊥) → scan (b ∷ s) d r ≡ deep → Later s d
 flat-next b s d r h g e = rw (ne-eqb b 60 h, ne-eqb b 62 g) at (next-later b s d r h e)
 
@@ -80,15 +73,6 @@ flat-later (b ∷ w) s d r f e =
     let y = flat-of b (x .0) in
     let z = flat-next b (w ++ s) d r (y .0) (y .1) e in
     flat-later w s d (z .room) (x .1) (z .is)
-
-digit-flat : (b : ℕ) → isDigit b ≡ true → isFlat b ≡ true
-digit-flat b h = let r = digit-range b h in flat-is b (λ e. omega (arith, r .1)) (λ e. omega (arith, r .1))
-
-symbol-flat : (b : ℕ) → isSymbolByte b ≡ true → isFlat b ≡ true
-symbol-flat b h =
-    or-cases (isUpper b) (isDigit b) (isFlat b)
-    (λ u. let r = upper-range b u in let lo = r .0 in flat-is b (λ e. omega arith) (λ e. omega arith))
-    (λ d. digit-flat b d) h
 
 decimal-flat : (n : ℕ) → all isFlat (decimal n) ≡ true
 decimal-flat n = all-weaken isDigit isFlat digit-flat (decimal n) (decimal-digits n)

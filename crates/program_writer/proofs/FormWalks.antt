@@ -10,7 +10,8 @@ use Rattle.language.specs.Forms.{Form, word, Forms, stop, _&_, _+&_, count}
 use Rattle.language.specs.Writing.{writeForm, isChain, bracketed}
 use Rattle.language.specs.declared.Val.{Val}
 use Rattle.cells.specs.Cells.{valAt}
-use Rattle.formtable.specs.Standing.{kindAt, arityAt, wordAt, parts, Row, row-op, row-select, row-selectRight, row-name, row-chain, row-construct, row-insert, row-applyAll, row-condition, row-while, row-constant, row-bu, Stands, no-form, a-form}
+use Rattle.formtable.specs.Standing.{kindAt, wordAt, parts, Row, row-op, row-select, row-selectRight, row-name, row-chain, row-construct, row-insert, row-applyAll, row-condition, row-while, row-constant, row-bu, Stands, a-form}
+use Rattle.formtable.proofs.Standing.{stands-up, arity-of}
 use Rattle.program_writer.specs.declared.Way.{Way}
 use Rattle.program_writer.specs.Layout.{takesPart, takesKind, behindPart, partText, partsText}
 use Rattle.program_writer.specs.Walks.{Wrote, Writable, AllWritable, one-more, BehindWalked, OpeningWalked, EndingWalked, Went, FormWalked, PartWalked, PartsWalked}
@@ -19,29 +20,11 @@ use Rattle.program_writer.proofs.FormTexts.{form-text, parts-writable}
 use Rattle.program_writer.proofs.Rows.{takes-kind}
 
 -- ---- what stands in the table
-pub grows : {t C : List ℕ} {n i e : ℕ} {fs : Forms} → Stands t C n i fs e → i ≤ e
-grows no-form = omega arith
-grows (a-form r s) = let h = grows s in omega arith
-
 pub first-row : {t C : List ℕ} {n i e : ℕ} {f : Form} {fs : Forms} → Stands t C n i (f & fs) e → Row t C n i f
 first-row (a-form r s) = r
 
 pub rest-stands : {t C : List ℕ} {n i e : ℕ} {f : Form} {fs : Forms} → Stands t C n i (f & fs) e → Stands t C n (i + 1) (parts f +& fs) e
 rest-stands (a-form r s) = s
-
-pub row-arity : {t C : List ℕ} {n i : ℕ} {f : Form} → Row t C n i f → arityAt t i ≡ count (parts f)
-row-arity (row-op q a w) = a
-row-arity (row-select q a w) = a
-row-arity (row-selectRight q a w) = a
-row-arity (row-name q a w) = a
-row-arity (row-chain q a w) = a
-row-arity (row-construct q a w) = a
-row-arity (row-insert q a w) = a
-row-arity (row-applyAll q a w) = a
-row-arity (row-condition q a w) = a
-row-arity (row-while q a w) = a
-row-arity (row-constant q a w r) = a
-row-arity (row-bu q a w r) = a
 
 pub not-chain : {t C : List ℕ} {n i : ℕ} {f : Form} → (kindAt t i ≡ 5 → ⊥) → Row t C n i f → isChain f ≡ false
 not-chain h (row-op q a w) = refl
@@ -73,7 +56,7 @@ is-chain h (row-bu q a w r) = absurd (omega arith)
 
 -- ---- a form
 pub form-out : {t C : List ℕ} {i at : ℕ} {out : List ℕ} → 2048 ≤ i → FormWalked t C i at (record { next = i; place = at }) out out
-form-out h = record { ahead = omega arith; means = λ n e f gs c l w s. let g = grows (rest-stands s) in absurd (omega arith) }
+form-out h = record { ahead = omega arith; means = λ n e f gs c l w s. let g = stands-up (rest-stands s) in absurd (omega arith) }
 
 module _ {t C : List ℕ} {i at arity p q : ℕ} {row : Val} {w : Way} {out out₁ out₂ out₃ : List ℕ} where
   pub form-done : row ≡ valAt t i → arity ≡ getD t (i * 4 + 1) 0 → OpeningWalked C row at p out out₁ → PartsWalked t C (row .tag) arity (i + 1) p w out₁ out₂ → EndingWalked C row (w .place) q out₂ out₃ → FormWalked t C i at (record { next = w .next; place = q }) out out₃
@@ -88,7 +71,7 @@ module _ {t C : List ℕ} {i at arity p q : ℕ} {row : Val} {w : Way} {out out�
       whole : (n e : ℕ) (f : Form) (gs : Forms) → n < 4294967296 → e ≤ 2048 → Writable f → Stands t C n i (f & gs) e → Went t C n (writeForm f) gs e at (record { next = w .next; place = q }) out out₃
       whole n e f gs c l g s =
           let r = first-row s in
-          let k = ps .means n e i f (parts f) gs c l kind r (a ∙ row-arity r) (parts-writable f g) (rest-stands s) in
+          let k = ps .means n e i f (parts f) gs c l kind r (a ∙ arity-of r) (parts-writable f g) (rest-stands s) in
           record { rest = k .rest; wrote = wrote-as (form-text f (g .good)) (wrote-then (wrote-then (o .means t n i f c kind value g r) (k .wrote)) (d .means t n i f c kind value g r)) }
 
 -- ---- a part

@@ -19,7 +19,8 @@ use Rattle.program_writer.specs.Layout.{takesPart, takesKind, partMarks,
 use Rattle.program_writer.specs.Depths.{ObjectDepth, PlacesDepth, OwnDepth, Deep, FormDepth, PartDepth, PartsDepth}
 use Rattle.program_writer.proofs.FormTexts.{opens, form-marks}
 use Rattle.program_writer.proofs.Rows.{own-constant, own-bu, takes-kind}
-use Rattle.program_writer.proofs.FormWalks.{grows, first-row, rest-stands, row-arity, not-chain, is-chain}
+use Rattle.formtable.proofs.Standing.{stands-up, arity-of}
+use Rattle.program_writer.proofs.FormWalks.{first-row, rest-stands, not-chain, is-chain}
 
 -- ---- the larger of numbers, up to a limit
 both-up-to : (a b l : ℕ) → min (max a b) l ≡ max (min a l) (min b l)
@@ -183,7 +184,7 @@ opens-one h e (row-constant q a w r) = refl
 opens-one h e (row-bu q a w r) = refl
 
 pub depth-out : {t C : List ℕ} {i : ℕ} → 2048 ≤ i → FormDepth t C i (record { next = i; marks = 0 })
-depth-out h = record { ahead = omega arith; means = λ n e f gs c l s. let g = grows (rest-stands s) in absurd (omega arith) }
+depth-out h = record { ahead = omega arith; means = λ n e f gs c l s. let g = stands-up (rest-stands s) in absurd (omega arith) }
 
 module _ {t C : List ℕ} {i arity own inside : ℕ} {row : Val} {d : Depth} (e : row ≡ valAt t i) (a : arity ≡ getD t (i * 4 + 1) 0) (ps : PartsDepth t C (row .tag) arity (i + 1) d) (o : OwnDepth C row own) (m : inside ≡ max (d .marks) own) where
   form-ahead : i ≤ d .next
@@ -194,7 +195,7 @@ module _ {t C : List ℕ} {i arity own inside : ℕ} {row : Val} {d : Depth} (e 
       let r = first-row s in
       let kind : row .tag ≡ kindAt t i = ap (λ (v : Val). v .tag) e in
       let value : row .word ≡ wordAt t i = ap (λ (v : Val). v .word) e in
-      let k = ps .means n l i f (parts f) gs c h kind r (a ∙ row-arity r) (rest-stands s) in
+      let k = ps .means n l i f (parts f) gs c h kind r (a ∙ arity-of r) (rest-stands s) in
       let p = k .marks in
       let q = o .means t n i f c kind value r in
       let z = form-marks f in

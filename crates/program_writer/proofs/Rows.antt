@@ -1,38 +1,33 @@
 -- What a record's kind and word say of the form that it is the record of: its marks, its words and names, its object.
 use Prim.Native.Nat.{ℕ, zero, suc, _+_, _%_, _≤_, _<_}
-use mathlib.Core.Path.{_≡_, refl, ap, ap₂, sym, subst, _∙_}
+use mathlib.Core.Path.{_≡_, refl, ap, sym, subst, _∙_}
 use mathlib.Core.Bool.{true, cond}
 use mathlib.Core.List.{List, [], _∷_}
 use native.Mathlib.Omega.{arith}
 use borrow.Author.Tests.{ne-eqb, le-leb, lt-leb}
 use lib.Dec.{eqb}
 use lib.IntN.{pos}
-use lib.ListN.{length, take}
+use lib.ListN.{take}
 use lib.Seq.{take-at}
 use Rattle.language.specs.Bytes.{bytes}
 use Rattle.language.specs.Objects.{Obj, int}
-use Rattle.language.specs.Judging.{all, isNameByte}
 use Rattle.language.specs.Forms.{Form, word, chain, construct, constant, insert, bu, condition, while}
 use Rattle.language.specs.Accepted.{IsName}
 use Rattle.language.specs.Packing.{packed}
 use Rattle.language.specs.Writing.{writeObj, writeInteger, writeWord, decimal}
 use Rattle.language.specs.declared.Val.{Val}
 use Rattle.cells.specs.Cells.{Rep, rep-pos}
+use Rattle.cells.proofs.Reps.{val-same}
 use Rattle.cells.proofs.Inversions.{tag-low}
 use Rattle.lexer.specs.Vocabulary.{opCode, spelledAt}
 use Rattle.lexer.specs.Packing as lexed
 use Rattle.lexer.specs.declared.Case.the-variants.{Lower}
-use Rattle.lexer.proofs.Packed.{unpacked-packed}
-use Rattle.objects.proofs.Symbols.{packed-is}
+use Rattle.lexer.proofs.Packed.{name-back}
 use Rattle.lexer.proofs.Words.{spelled-of, code-below}
 use Rattle.formtable.specs.Standing.{kindAt, wordAt, Row, row-op, row-select, row-selectRight, row-name, row-chain, row-construct, row-insert, row-applyAll, row-condition, row-while, row-constant, row-bu}
 use Rattle.program_writer.specs.Layout.{takesPart, takesKind, opening, behindPart, behindChain, behindConstruct, behindCondition, behindWhile, ending}
 use Rattle.program_writer.specs.Walks.{Wrote, NameWalked, ConstantWalked, MarkBehind, OpeningMark, Writable, BehindWalked, PlainWalked, OpeningWalked, EndingWalked}
 use Rattle.program_writer.proofs.Wrote.{wrote-none, wrote-then, wrote-as}
-
--- ---- values
-pub val-same : (v u : Val) → v .tag ≡ u .tag → v .word ≡ u .word → v ≡ u
-val-same v u e f = ap₂ (λ (a b : ℕ). record { tag = a; word = b }) e f
 
 -- the object of a record that has one
 module _ {C : List ℕ} {n : ℕ} {x : Obj} {v : Val} (row : Val) where
@@ -207,18 +202,13 @@ module _ {C : List ℕ} {row : Val} {at : ℕ} {out : List ℕ} where
     end-bu = record { means = λ t n i f c e w d r. bu-text f c e w d r }
 
 -- ---- words and names
-name-bytes : (w : List ℕ) → IsName w → (all isNameByte w ≡ true) × (length w ≤ 12)
-name-bytes [] i = absurd i
-name-bytes (b ∷ w) i = (rw (i .0) (i .1), i .2)
-
 module _ {v at r n : ℕ} {old new out out′ : List ℕ} where
   pub name-walk : lexed.Unpacked Lower v n old new → Wrote (take n new) at r out out′ → NameWalked v at r out out′
   name-walk u w = record { means = λ x i e. wrote-as (spelled x i e) w }
     where
       spelled : (x : List ℕ) → IsName x → v ≡ packed x → take n new ≡ x
       spelled x i e =
-          let good = name-bytes x i in
-          let back : lexed.unpacked Lower v ≡ x = ap (λ (a : ℕ). lexed.unpacked Lower a) (e ∙ sym (packed-is x)) ∙ unpacked-packed Lower x (good .0) (good .1) in
+          let back : lexed.unpacked Lower v ≡ x = ap (λ (a : ℕ). lexed.unpacked Lower a) e ∙ name-back x i in
           ap (λ (l : List ℕ). take n l) (u .bytes) ∙ take-at (lexed.unpacked Lower v) _ n (sym (u .size)) ∙ back
 
 -- ---- words, selectors and names

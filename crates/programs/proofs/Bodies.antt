@@ -19,12 +19,10 @@ use Rattle.theorems.proofs.Refusals.{first-within}
 use Rattle.theorems.proofs.Calls.{definitions-calls}
 use Rattle.lexer.specs.Readings.{Sized}
 use Rattle.lexer.specs.Judgements.{nameJudged}
-use Rattle.lexer.specs.Packing.{packed as lexerPacked}
 use Rattle.lexer.specs.declared.NameJudged.{NameJudged}
 use Rattle.lexer.specs.declared.NameJudged.the-variants as N
 use Rattle.formtable.specs.Encoding.{encodeDefinitions}
 use Rattle.formtable.proofs.Lengths.{length-form, length-constants}
-use Rattle.objects.proofs.Symbols.{packed-is}
 use Rattle.forms.specs.declared.Upto.{Upto}
 use Rattle.forms.specs.declared.MarkRead.{MarkRead}
 use Rattle.forms.specs.declared.MarkRead.the-variants as M
@@ -82,8 +80,8 @@ record JudgedName (j : Judged (List ℕ)) (v : ℕ) : Type 0 where
 
 name-judged : {j : Judged (List ℕ)} {n v : ℕ} → MeetsWord (IsNameIn n) j → nameJudged j ≡ N.Is v → JudgedName j v
 name-judged {v = v} (meetsWord {a = w} q) e =
-    let z : lexerPacked w ≡ v = cc in
-    record { called = w; judged = refl; good = q .isName; packs = sym z ∙ packed-is w }
+    let z : packed w ≡ v = cc in
+    record { called = w; judged = refl; good = q .isName; packs = sym z }
 name-judged misspelled e = absurd (let z : _≡_ {A = ℕ} 0 1 = cc in omega arith)
 name-judged outOfRange e = absurd (let z : _≡_ {A = ℕ} 0 1 = cc in omega arith)
 name-judged tooLong e = absurd (let z : _≡_ {A = ℕ} 0 1 = cc in omega arith)

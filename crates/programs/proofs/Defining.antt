@@ -12,7 +12,7 @@ use Rattle.language.specs.Accepted.{IsName}
 use Rattle.language.specs.Tokens.{placeFrom}
 use Rattle.language.specs.Reading.{Got, got, no, andThen, Placed}
 use Rattle.lexer.specs.Readings.{Skipped}
-use Rattle.formtable.specs.Encoding.{encodeForm, constantsFrom, encodeProgram, programConstants, encodeDefinitions}
+use Rattle.formtable.specs.Encoding.{encodeForm, constantsFrom, encodeProgram, programConstants, programOf, encodeDefinitions}
 use Rattle.formtable.proofs.Lengths.{length-program, length-program-constants}
 use Rattle.formtable.proofs.Appended.{programs-appended, program-constants-appended, definitions-appended}
 use Rattle.forms.specs.declared.Upto.{Upto}
@@ -21,7 +21,7 @@ use Rattle.forms.specs.declared.FormRead.the-variants as F
 use Rattle.programs.specs.declared.DefinitionsRead.the-variants as D
 use Rattle.programs.specs.Bodies.{placedAt, definitionsAt}
 use Rattle.forms.specs.Readings.{Ready, Run, Laid}
-use Rattle.programs.specs.Definitions.{programOf, AllNamed, none-named, more-named, PlacedMet, DefinitionsMet, definitions-read, definitions-refused}
+use Rattle.programs.specs.Definitions.{AllNamed, none-named, more-named, PlacedMet, DefinitionsMet, definitions-read, definitions-refused}
 use Rattle.forms.proofs.Laying.{run-none, run-then, run-as}
 use Rattle.forms.proofs.Equations.{then-got}
 use Rattle.programs.proofs.Bodies.{placed-got, placed-no, definitions-are, definition-after}

@@ -1,7 +1,7 @@
 -- Names that are defined twice: packed names are compared for the names, and the first that is found is the definition's.
 use Prim.Native.Nat.{ℕ, zero, suc, _+_, _-_, _*_, _≤_, _<_}
 use mathlib.Core.Path.{_≡_, refl, ap, sym, _∙_}
-use mathlib.Core.Bool.{Bool, true, false, cond, _&&_, _||_}
+use mathlib.Core.Bool.{Bool, true, false, cond, _||_}
 use mathlib.Core.List.{List, [], _∷_}
 use native.Mathlib.Numerals.{add-one}
 use native.Mathlib.Omega.{arith}
@@ -11,53 +11,15 @@ use borrow.Author.Tests.{eq-eqb, ne-eqb, eqb-true, eqb-false}
 use Rattle.language.specs.Bytes.{sameBytes}
 use Rattle.language.specs.Forms.{Prog, formsIn}
 use Rattle.language.specs.Accepted.{IsName}
-use Rattle.language.specs.Judging.{all, isNameByte}
 use Rattle.language.specs.Packing.{packed}
 use Rattle.language.specs.Reading.{Got, no, Placed, isIn, noneTwice}
-use Rattle.theorems.proofs.JudgedWords.{same-bytes}
-use Rattle.theorems.proofs.Texts.{lower-name, all-cons}
-use Rattle.cells.proofs.Compared.{same-bytes-refl}
 use Rattle.tables.specs.Tables.{put, field}
 use Rattle.tables.proofs.Put.{put-inside}
 use Rattle.formtable.proofs.Lengths.{length-definitions}
-use Rattle.lexer.specs.declared.Case.the-variants.{Lower}
-use Rattle.lexer.proofs.Packed.{packed-injective}
+use Rattle.formtable.proofs.Names.{name-test}
 use Rattle.formtable.specs.Encoding.{lowOf, highOf, encodeDefinitions}
-use Rattle.objects.proofs.Symbols.{packed-is}
 use Rattle.programs.specs.declared.TwiceRead.the-variants as T
 use Rattle.programs.specs.Definitions.{AllNamed, none-named, more-named, nameAt, placeAt, earlierOf, Listed, SameName, Compared, TwiceMet}
-
--- ---- names are equal if their numbers are
-name-bytes : (w : List ℕ) → IsName w → (all isNameByte w ≡ true) × (length w ≤ 12)
-name-bytes [] h = absurd h
-name-bytes (b ∷ w) h = (all-cons isNameByte b w (lower-name b (h .0)) (h .1), h .2)
-
-names-equal : (v w : List ℕ) → IsName v → IsName w → packed v ≡ packed w → v ≡ w
-names-equal v w i j e =
-    let a = name-bytes v i in
-    let b = name-bytes w j in
-    packed-injective Lower v w (a .0) (a .1) (b .0) (b .1) (packed-is v ∙ e ∙ sym (packed-is w))
-
-same-of : (v w : List ℕ) → IsName v → IsName w → (eqb (lowOf (packed v)) (lowOf (packed w)) && eqb (highOf (packed v)) (highOf (packed w))) ≡ sameBytes v w
-same-of v w i j = go (sameBytes v w) refl
-  where
-    go : (t : Bool) → sameBytes v w ≡ t → (eqb (lowOf (packed v)) (lowOf (packed w)) && eqb (highOf (packed v)) (highOf (packed w))) ≡ sameBytes v w
-    go true e =
-        let z = same-bytes v w e in
-        rw (z, eq-eqb (lowOf (packed w)) (lowOf (packed w)) refl, eq-eqb (highOf (packed w)) (highOf (packed w)) refl) (sym (same-bytes-refl w))
-    go false e = other (eqb (lowOf (packed v)) (lowOf (packed w))) (eqb (highOf (packed v)) (highOf (packed w))) refl refl
-      where
-        bad : _≡_ {A = Bool} true false → ⊥
-        bad z = let y : _≡_ {A = ℕ} 0 1 = cc in omega arith
-
-        other : (a b : Bool) → eqb (lowOf (packed v)) (lowOf (packed w)) ≡ a → eqb (highOf (packed v)) (highOf (packed w)) ≡ b → (eqb (lowOf (packed v)) (lowOf (packed w)) && eqb (highOf (packed v)) (highOf (packed w))) ≡ sameBytes v w
-        other true true x y =
-            let l = eqb-true (lowOf (packed v)) (lowOf (packed w)) x in
-            let h = eqb-true (highOf (packed v)) (highOf (packed w)) y in
-            let q : packed v ≡ packed w = omega arith in
-            absurd (bad (sym (same-bytes-refl w) ∙ rw (names-equal v w i j q) at e))
-        other true false x y = rw (x, y, e)
-        other false b x y = rw (x, e)
 
 -- ---- same_name
 module _ {d : List ℕ} {j lo hi a : ℕ} (h : a ≡ getD d (j * 4) 0) where
@@ -94,7 +56,7 @@ unlike-starts = record { most = omega arith; means = λ ds l h. refl }
 module _ {d : List ℕ} {i j lo hi : ℕ} {r : Bool} (a : lo ≡ getD d (i * 4) 0) (b : hi ≡ field d i 1) (w : Unlike d i j) (l : j < i) (m : SameName d j lo hi r) where
   same-names : (ds : List Placed) → Listed d ds → i < length ds → sameBytes (nameAt ds j) (nameAt ds i) ≡ r
   same-names ds t h =
-      sym (same-of (nameAt ds j) (nameAt ds i) (t .named j (omega arith)) (t .named i h))
+      sym (name-test (nameAt ds j) (nameAt ds i) (t .named j (omega arith)) (t .named i h))
       ∙ rw (← (t .low j (omega arith)), ← (t .high j (omega arith)), ← (t .low i h), ← (t .high i h), ← a, ← b) (sym (m .is))
 
   pub earlier-found : r ≡ true → Compared d i true

@@ -9,7 +9,7 @@ use lib.ListN.{length}
 use borrow.Author.Tests.{lt-ltb, le-ltb}
 use Rattle.language.specs.Forms.{formsOf, programCells}
 use Rattle.language.specs.Reading.{Got, got, no, andThen, Placed, noneTwice, withinLimits, readProgram}
-use Rattle.formtable.specs.Encoding.{encodeProgram, programConstants, encodeDefinitions}
+use Rattle.formtable.specs.Encoding.{encodeProgram, programConstants, programOf, encodeDefinitions}
 use Rattle.formtable.proofs.Lengths.{length-program, length-program-constants}
 use Rattle.programs.specs.declared.DefinitionsRead.{DefinitionsRead}
 use Rattle.programs.specs.declared.DefinitionsRead.the-variants as D
@@ -18,7 +18,7 @@ use Rattle.programs.specs.declared.TwiceRead.the-variants as T
 use Rattle.programs.specs.declared.ProgramRead.the-variants as P
 use Rattle.programs.specs.Bodies.{definitionsAt}
 use Rattle.forms.specs.Readings.{Run, Laid}
-use Rattle.programs.specs.Definitions.{programOf, AllNamed, DefinitionsMet, definitions-read, definitions-refused, Listed, twiceOf, TwiceMet, ProgramMet, program-read, program-refused}
+use Rattle.programs.specs.Definitions.{AllNamed, DefinitionsMet, definitions-read, definitions-refused, Listed, twiceOf, TwiceMet, ProgramMet, program-read, program-refused}
 use Rattle.programs.proofs.Naming.{listed-of}
 
 record GotDefinitions (t u d : List ℕ) (k n c : ℕ) (t′ u′ d′ : List ℕ) (g : Got (List Placed)) : Type 0 where

@@ -10,7 +10,7 @@ use Rattle.language.specs.Accepted.{IsName}
 use Rattle.language.specs.Packing.{packed}
 use Rattle.language.specs.Reading.{Got, got, no, Placed, isIn, noneTwice, calls, readDefinitions}
 use Rattle.tables.specs.Tables.{put, field, recordPut}
-use Rattle.formtable.specs.Encoding.{lowOf, highOf, encodeProgram, programConstants, encodeDefinitions}
+use Rattle.formtable.specs.Encoding.{lowOf, highOf, encodeProgram, programConstants, programOf, encodeDefinitions}
 use Rattle.forms.specs.declared.Upto.{Upto}
 use Rattle.forms.specs.declared.FormRead.{FormRead}
 use Rattle.forms.specs.declared.FormRead.the-variants as F
@@ -21,9 +21,6 @@ use Rattle.programs.specs.declared.TwiceRead.the-variants as T
 use Rattle.programs.specs.declared.ProgramRead.{ProgramRead}
 use Rattle.programs.specs.declared.ProgramRead.the-variants as P
 use Rattle.forms.specs.Readings.{Run, Laid, FormLaid}
-
-abbrev pub programOf : List Placed → Prog
-programOf ds = map (λ (d : Placed). d .def) ds
 
 -- the names, in order
 abbrev pub namesOf : List Placed → List (List ℕ)

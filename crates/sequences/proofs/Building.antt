@@ -11,7 +11,7 @@ use Rattle.cells.specs.Cells.{Rep, rep-nil, rep-more, Same, sequenceVal, cellPu
 use Rattle.cells.specs.Parts.{Sized, Headed, Tailed, Nth}
 use Rattle.cells.proofs.Reps.{val-same, same-refl, same-trans, rep-ext, cell-same, rep-new}
 use Rattle.sequences.specs.Making.{Space, Stands, Before, takeObjs, Prepended, Built, allButLast}
-use Rattle.sequences.proofs.Counts.{few-places}
+use Rattle.cells.proofs.Lengths.{rep-length}
 use Rattle.sequences.proofs.Parts.{append-nil, length-append-one, take-all, nth-last, take-but-last, length-but-last}
 
 -- ---- one place
@@ -24,7 +24,7 @@ pub before-far : {C C′ : List ℕ} {p : ℕ} {x s r : Val} → 4294967294 < p 
 before-far h = record { means = λ y ys e rx rs. absurd (omega (arith, e .far)) }
 
 pub before-long : {C C′ : List ℕ} {p n : ℕ} {x s r : Val} → Sized s n → 4294967294 < n → Before C p x s r C′
-before-long {C} {p = p} z h = record { means = λ y ys e rx rs. absurd (omega (arith, e .far, few-places ys (omega (arith, e .far)) rs, z .means C p ys (omega (arith, e .far)) rs)) }
+before-long {C} {p = p} z h = record { means = λ y ys e rx rs. absurd (omega (arith, e .far, rep-length ys rs, z .means C p ys (omega (arith, e .far)) rs)) }
 
 pub before-is : {C C′ : List ℕ} {p n l : ℕ} {x s r : Val} → Sized s n → l ≡ s .word % 4294967296 → C′ ≡ cellPut C p x l → r ≡ sequenceVal (p + 1) (n + 1) → Before C p x s r C′
 before-is {C} {C′} {p} {n} {l} {x} {s} {r} z f g e = record { means = go }

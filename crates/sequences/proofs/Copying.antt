@@ -15,7 +15,7 @@ use Rattle.cells.specs.Parts.{nthObj, dropObjs, Headed, Tailed}
 use Rattle.cells.proofs.Reps.{same-refl, same-fewer, same-trans, rep-ext, cell-same, length-cell}
 use Rattle.sequences.specs.Making.{Space}
 use Rattle.sequences.specs.Lines.{linkOver, Place, Line, Copies, Copied}
-use Rattle.sequences.proofs.Parts.{drop-first}
+use Rattle.cells.proofs.Places.{drop-first}
 use Rattle.sequences.proofs.Segments.{place-ext, place-new}
 
 pub link-is : (p d : ℕ) {r : ℕ} → (d ≡ 0 → ⊥) → r ≡ (p + d + 1) % 4294967296 → r ≡ linkOver p d

@@ -4,7 +4,7 @@ use mathlib.Core.Path.{_≡_, refl, ap}
 use native.Mathlib.Omega.{arith}
 use Rattle.language.specs.Objects.{Obj, Objs, nil, _::_, lengthOf, _+++_}
 use Rattle.language.specs.Meanings.{dropLast, lastOf}
-use Rattle.cells.specs.Parts.{nthObj, dropObjs}
+use Rattle.cells.specs.Parts.{nthObj}
 use Rattle.sequences.specs.Making.{takeObjs}
 
 pub append-nil : (xs : Objs) → xs +++ nil ≡ xs
@@ -55,9 +55,3 @@ take-but-last x (y :: ys) = ap (λ (r : Objs). x :: r) (take-but-last y ys)
 pub length-but-last : (x : Obj) (xs : Objs) → lengthOf (dropLast x xs) ≡ lengthOf xs
 length-but-last x nil = refl
 length-but-last x (y :: ys) = ap suc (length-but-last y ys)
-
-pub drop-first : (xs : Objs) (k : ℕ) → k < lengthOf xs → dropObjs xs k ≡ nthObj xs k :: dropObjs xs (suc k)
-unfolding dropObjs nthObj
-drop-first nil k h = absurd (omega arith)
-drop-first (x :: xs) zero h = refl
-drop-first (x :: xs) (suc k) h = drop-first xs k (omega arith)

@@ -11,8 +11,9 @@ use Rattle.cells.specs.Parts.{nthObj, dropObjs, Sized, Headed}
 use Rattle.cells.proofs.Reps.{same-refl, same-trans, rep-ext, cell-same, rep-new}
 use Rattle.sequences.specs.Making.{Space, Stands, takeObjs, Prepended}
 use Rattle.sequences.specs.Lines.{Copied}
-use Rattle.sequences.proofs.Counts.{few-places}
-use Rattle.sequences.proofs.Parts.{append-more, length-append, take-length, take-next, drop-first}
+use Rattle.cells.proofs.Lengths.{rep-length}
+use Rattle.cells.proofs.Places.{drop-first}
+use Rattle.sequences.proofs.Parts.{append-more, length-append, take-length, take-next}
 use Rattle.sequences.proofs.Segments.{seg-ext, seg-rep, line-segment}
 use Rattle.sequences.proofs.Building.{as-sequence}
 
@@ -24,7 +25,7 @@ pub prepend-far : {C C′ : List ℕ} {n p : ℕ} {v rest r : Val} → 429496729
 prepend-far h = record { means = λ xs ys l e rv rr. absurd (omega (arith, e .far)) }
 
 pub prepend-long : {C C′ : List ℕ} {n p m : ℕ} {v rest r : Val} → Sized rest m → 4294967295 - n < m → Prepended C v n p rest r C′
-prepend-long {C} {p = p} z h = record { means = λ xs ys l e rv rr. absurd (omega (arith, e .far, few-places ys (omega (arith, e .far)) rr, z .means C p ys (omega (arith, e .far)) rr)) }
+prepend-long {C} {p = p} z h = record { means = λ xs ys l e rv rr. absurd (omega (arith, e .far, rep-length ys rr, z .means C p ys (omega (arith, e .far)) rr)) }
 
 -- all places but the last are in the line, the last is put behind them
 prepend-as : {C C₁ : List ℕ} {p m l : ℕ} {v rest behind x : Val} (q : ℕ) → Sized rest m → Copied C v q p 1 behind C₁ → length C₁ ≡ length C → Headed C₁ behind x → l ≡ rest .word % 4294967296 → Prepended C v (suc q) p rest (sequenceVal (p + 1) (suc q + m)) (cellPut C₁ (p + q) x l)

@@ -12,7 +12,7 @@ use Rattle.cells.specs.Parts.{Headed, Tailed, Paired}
 use Rattle.cells.proofs.Reps.{same-refl, same-fewer, same-trans, rep-ext, cell-same}
 use Rattle.sequences.specs.Making.{Space, Stands, side, sides, Joined, Shared}
 use Rattle.sequences.specs.Lines.{Place, Coupled}
-use Rattle.sequences.proofs.Counts.{few-places}
+use Rattle.cells.proofs.Lengths.{rep-length}
 use Rattle.sequences.proofs.Segments.{place-ext, place-new, Begun, begin, begun-next, begun-end}
 
 -- ---- one pair
@@ -64,7 +64,7 @@ share-none {C} {a} {v} {first} {n} {p} z = record { means = λ x ys e s ra rv. g
     go x (y :: ys) e rv = absurd (omega arith)
 
 pub share-long : {C C′ : List ℕ} {a v r : Val} {first : Bool} {n p : ℕ} → 1073741823 < n → Shared C a v first n p r C′
-share-long h = record { means = λ x ys e s ra rv. absurd (omega (arith, s .far, s .long, few-places ys (omega (arith, s .far)) rv)) }
+share-long h = record { means = λ x ys e s ra rv. absurd (omega (arith, s .far, s .long, rep-length ys rv)) }
 
 pub share-far : {C C′ : List ℕ} {a v r : Val} {first : Bool} {n p : ℕ} → 4294967295 - p < 3 * n → Shared C a v first n p r C′
 share-far h = record { means = λ x ys e s ra rv. absurd (omega (arith, s .far)) }

@@ -5,7 +5,7 @@ use Prim.Native.Nat.{ℕ, suc, _≤_, _-_, _+_, _*_}
 use native.Mathlib.Omega.{arith}
 use lib.ListN.{length}
 use lib.Seq.{slice}
-use Rattle.lexer.specs.Packing.{letterOf, packed}
+use Rattle.language.specs.Packing.{letterOf, packed}
 use Rattle.lexer.proofs.Packed.{packed-none, packed-turn, packed-fits}
 use Rattle.lexer.proofs.packing.pack.Statement.{statement}
 use Rattle.lexer.proofs.packing.pack.Tie as tie
