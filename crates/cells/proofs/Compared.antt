@@ -1,36 +1,23 @@
 -- Two values of integers or of symbols are equal exactly if the objects are; T and F are known by their values.
 use Prim.Native.Nat.{ℕ, zero, suc, _+_, _*_, _≤_, _<_}
-use mathlib.Core.Path.{_≡_, refl, sym, ap, ap₂, subst, _∙_}
+use mathlib.Core.Path.{_≡_, refl, sym, ap, _∙_}
 use mathlib.Core.Bool.{Bool, true, false, _&&_}
-use mathlib.Core.List.{List, [], _∷_}
+use mathlib.Core.List.{List}
 use native.Mathlib.Omega.{arith}
 use lib.Dec.{eqb}
 use lib.IntN.{ℤ, pos, negsuc}
-use borrow.Author.Tests.{eqb-true, eqb-false, eq-eqb, ne-eqb}
+use borrow.Author.Tests.{eq-eqb, ne-eqb}
 use Rattle.language.specs.Bytes.{bytes, sameBytes}
 use Rattle.language.specs.Objects.{Obj, int, symbol, seq, Objs, nil, _::_, symbolT, symbolF, truth, truthOf, isT, isF, neither}
 use Rattle.language.specs.Meanings.{sameInt}
 use Rattle.language.specs.Accepted.{IsSymbol}
 use Rattle.language.specs.Packing.{packed, letterOf}
 use Rattle.language.specs.declared.Val.{Val}
+use Rattle.language.proofs.Bytes.{same-bytes-is, same-bytes-refl}
 use Rattle.cells.specs.Cells.{Rep, rep-pos, rep-neg, rep-symbol, rep-nil, rep-more}
 use Rattle.cells.proofs.Packing.{symbols-same}
 
 -- ---- bytes
-pub same-bytes-is : (a b : List ℕ) → sameBytes a b ≡ true → a ≡ b
-same-bytes-is [] [] e = refl
-same-bytes-is [] (y ∷ b) e = absurd (let z : _≡_ {A = ℕ} 0 1 = cc in omega arith)
-same-bytes-is (x ∷ a) [] e = absurd (let z : _≡_ {A = ℕ} 0 1 = cc in omega arith)
-same-bytes-is (x ∷ a) (y ∷ b) e = go (eqb x y) refl e (same-bytes-is a b)
-  where
-    go : (t : Bool) → eqb x y ≡ t → (t && sameBytes a b) ≡ true → (sameBytes a b ≡ true → a ≡ b) → Path (List ℕ) (x ∷ a) (y ∷ b)
-    go true f g r = ap₂ _∷_ (eqb-true x y f) (r g)
-    go false f g r = absurd (let z : _≡_ {A = ℕ} 0 1 = cc in omega arith)
-
-pub same-bytes-refl : (a : List ℕ) → sameBytes a a ≡ true
-same-bytes-refl [] = refl
-same-bytes-refl (x ∷ a) = rw (eq-eqb x x refl, same-bytes-refl a)
-
 -- a test that is true exactly if both are equal
 test-same : (b : Bool) (m n : ℕ) → (b ≡ true → m ≡ n) → (m ≡ n → b ≡ true) → eqb m n ≡ b
 test-same true m n f g = eq-eqb m n (f refl)

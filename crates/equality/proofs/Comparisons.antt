@@ -1,6 +1,6 @@
 -- Looking at two objects, and at the places of two sequences, on cells.
 use Prim.Native.Nat.{ℕ, suc, _+_, _-_, _*_, _≤_, _<_}
-use mathlib.Core.Path.{_≡_, refl, sym, ap, ap₂, subst, _∙_}
+use mathlib.Core.Path.{_≡_, refl, sym, ap, subst, _∙_}
 use mathlib.Core.Bool.{Bool, true, false, cond}
 use mathlib.Core.List.{List}
 use native.Mathlib.Omega.{arith}
@@ -15,18 +15,14 @@ use Rattle.language.specs.declared.Meter.{Meter}
 use Rattle.language.specs.declared.Val.{Val}
 use Rattle.language.specs.declared.Charge.{Charge}
 use Rattle.language.specs.declared.Charge.the-variants.{Granted, Spent}
-use Rattle.language.proofs.Charging.{step-granted, step-spent}
+use Rattle.language.proofs.Bytes.{same-bytes-is, same-bytes-refl}
+use Rattle.language.proofs.Charging.{meter-same, step-granted, step-spent}
 use Rattle.cells.specs.Cells.{Rep, rep-pos, rep-neg, rep-symbol, rep-nil, rep-more}
 use Rattle.cells.specs.Parts.{Sized, Headed, Tailed}
 use Rattle.cells.proofs.Packing.{symbols-same}
-use Rattle.cells.proofs.Compared.{same-bytes-is, same-bytes-refl}
 use Rattle.equality.specs.declared.Compared.{Compared}
 use Rattle.equality.specs.declared.Compared.the-variants.{Equal, Differ, Out}
 use Rattle.equality.specs.Looking.{stepsTaken, ended, after, Fewer, NoMore, Falls, Sinks, Looks, LooksAlong}
-
-pub meter-same : (m k : Meter) → m .steps ≡ k .steps → m .names ≡ k .names → m .cells ≡ k .cells → m ≡ k
-meter-same m k e f g =
-    ap₂ (λ (a b : ℕ). record { steps = a; names = b; cells = m .cells }) e f ∙ ap (λ (a : ℕ). record { steps = k .steps; names = k .names; cells = a }) g
 
 -- ---- a step for each pair
 -- one pair more is one step more

@@ -5,8 +5,8 @@ use mathlib.Core.List.{List, [], _∷_, _++_, append-assoc, append-nil}
 use native.Mathlib.Nat.{add-zero}
 use native.Mathlib.Omega.{arith}
 use Rattle.language.specs.Forms.{Form, Forms, stop, _&_, _+&_, Def, Prog, formsIn, formsOf, constantCells, constantCellsAll, programCells}
-use Rattle.language.specs.Reading.{Placed}
-use Rattle.formtable.specs.Encoding.{encodeForm, encodeForms, constantsFrom, constantsFromAll, encodeProgram, programConstants, programOf, encodeDefinitions}
+use Rattle.language.specs.Reading.{Placed, programOf}
+use Rattle.formtable.specs.Encoding.{encodeForm, encodeForms, constantsFrom, constantsFromAll, encodeProgram, programConstants, encodeDefinitions}
 
 pub forms-appended : (fs gs : Forms) (c : ℕ) → encodeForms c (fs +& gs) ≡ encodeForms c fs ++ encodeForms (c + constantCellsAll fs) gs
 unfolding encodeForm

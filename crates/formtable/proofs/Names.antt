@@ -9,8 +9,8 @@ use borrow.Author.Tests.{eqb-true, eq-eqb}
 use Rattle.language.specs.Bytes.{sameBytes}
 use Rattle.language.specs.Accepted.{IsName}
 use Rattle.language.specs.Packing.{packed}
+use Rattle.language.proofs.Bytes.{same-bytes-is, same-bytes-refl}
 use Rattle.lexer.proofs.Packed.{names-equal}
-use Rattle.cells.proofs.Compared.{same-bytes-is, same-bytes-refl}
 use Rattle.formtable.specs.Encoding.{lowOf, highOf}
 
 -- the test of two numbers by halves is one that is true exactly if they are equal

@@ -1,7 +1,7 @@
 -- A program in the form table: four numbers to a form, [kind, arity, lo, hi], each form before its parts, the bodies of the
 -- definitions one after the other. A record's number is the form's place. The constants lie in cells, one after the other.
 use Prim.Native.Nat.{ℕ, zero, suc, _+_, _/_, _%_}
-use mathlib.Core.List.{List, [], _∷_, _++_, map}
+use mathlib.Core.List.{List, [], _∷_, _++_}
 use Rattle.language.specs.Objects.{Obj}
 use Rattle.language.specs.Forms.{Form, word, name, chain, construct, constant, insert, applyAll, bu, condition, while, Forms, stop, _&_, Word, select, selectRight, op, Def, Prog, count, formsIn, constantCells}
 use Rattle.language.specs.Reading.{Placed}
@@ -73,10 +73,6 @@ encodeProgram c (d ∷ ds) = encodeForm c (d .body) ++ encodeProgram (c + consta
 unfoldable pub programConstants : ℕ → Prog → List ℕ
 programConstants c [] = []
 programConstants c (d ∷ ds) = constantsFrom c (d .body) ++ programConstants (c + constantCells (d .body)) ds
-
--- the program of definitions that were read
-abbrev pub programOf : List Placed → Prog
-programOf ds = map (λ (d : Placed). d .def) ds
 
 -- The table of definitions: [name lo, name hi, root, place], the root being the record of the body.
 unfoldable pub encodeDefinitions : ℕ → List Placed → List ℕ

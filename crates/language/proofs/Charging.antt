@@ -12,6 +12,9 @@ use Rattle.language.specs.declared.Meter.{Meter}
 use Rattle.language.specs.declared.Charge.{Charge}
 use Rattle.language.specs.declared.Charge.the-variants.{Granted, Spent}
 
+pub meter-same : (m k : Meter) → m .steps ≡ k .steps → m .names ≡ k .names → m .cells ≡ k .cells → m ≡ k
+meter-same m k e f g = λ i. record { steps = e i; names = f i; cells = g i }
+
 pub step-asked : {A : Type 0} (m : Meter) (k : Meter → Out A) → askStep m k ≡ onCharge (stepCharge m) noStep k
 unfolding stepCharge
 step-asked m k = go (m .steps) refl

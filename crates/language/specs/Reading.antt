@@ -166,6 +166,10 @@ pub record Placed : Type 0 where
   pub place : ℕ
   pub def : Def
 
+-- the program of definitions, without their places
+abbrev pub programOf : List Placed → Prog
+programOf ds = map (λ (d : Placed). d .def) ds
+
 -- `name=form;`, the name read
 unfoldable pub definitionAt : ℕ → List ℕ → ℕ → List ℕ → ℕ → Got Placed
 definitionAt k s p w e =
@@ -195,7 +199,7 @@ noneTwice earlier (d ∷ ds) good =
 -- 6 to 9 by place, then 10, then 11
 unfoldable pub withinLimits : List Placed → ℕ → Got Prog
 withinLimits ds e =
-    let P = map (λ (d : Placed). d .def) ds in
+    let P = programOf ds in
     cond (ltb 2048 (formsOf P) || ltb 128 (length P)) (no 10 0) (noneTwice [] ds (got P e))
 
 unfoldable pub readProgram : List ℕ → Got Prog

@@ -9,12 +9,12 @@ use Rattle.language.specs.Forms.{Prog}
 use Rattle.language.specs.Accepted.{IsName, AreForms, AreDefinitions}
 use Rattle.language.specs.Evaluation.{lookup}
 use Rattle.language.specs.Packing.{letterOf, packed}
-use Rattle.language.specs.Reading.{Placed}
+use Rattle.language.specs.Reading.{Placed, programOf}
 use Rattle.language.specs.declared.Meter.{Meter}
 use Rattle.language.specs.declared.Val.{Val}
 use Rattle.tables.specs.Tables.{put}
 use Rattle.cells.specs.Cells.{free}
-use Rattle.formtable.specs.Encoding.{programOf, encodeDefinitions}
+use Rattle.formtable.specs.Encoding.{encodeDefinitions}
 use Rattle.formtable.specs.Standing.{bodies}
 use Rattle.primitives.specs.declared.Ended.{Ended}
 use Rattle.linker.specs.Linked.{DefAt}

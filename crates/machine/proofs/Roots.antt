@@ -12,9 +12,9 @@ use Rattle.language.specs.Forms.{Form, word, name, chain, construct, constant, 
 use Rattle.language.specs.Accepted.{IsName, AreDefinitions}
 use Rattle.language.specs.Evaluation.{lookup}
 use Rattle.language.specs.Packing.{packed}
-use Rattle.language.specs.Reading.{Placed}
+use Rattle.language.specs.Reading.{Placed, programOf}
 use Rattle.tables.specs.Tables.{field}
-use Rattle.formtable.specs.Encoding.{lowOf, highOf, programOf, encodeDefinitions}
+use Rattle.formtable.specs.Encoding.{lowOf, highOf, encodeDefinitions}
 use Rattle.formtable.specs.Standing.{parts, bodies}
 use Rattle.formtable.proofs.Names.{name-test-back}
 use Rattle.linker.specs.Linked.{FormAt, DefAt, no-def, a-def}

@@ -6,14 +6,14 @@ use lib.ListN.{length}
 use Rattle.language.specs.Objects.{Obj}
 use Rattle.language.specs.Forms.{mainForm}
 use Rattle.language.specs.Accepted.{AreDefinitions}
-use Rattle.language.specs.Reading.{Placed}
+use Rattle.language.specs.Reading.{Placed, programOf}
 use Rattle.language.specs.Meanings.{one}
 use Rattle.language.specs.Evaluation.{apply}
 use Rattle.language.specs.declared.Meter.{Meter}
 use Rattle.language.specs.declared.Val.{Val}
 use Rattle.tables.specs.Tables.{put}
 use Rattle.cells.specs.Cells.{Rep, Room, free}
-use Rattle.formtable.specs.Encoding.{programOf, encodeDefinitions}
+use Rattle.formtable.specs.Encoding.{encodeDefinitions}
 use Rattle.formtable.specs.Standing.{Stands, bodies}
 use Rattle.primitives.specs.declared.Ended.{Ended}
 use Rattle.primitives.specs.Ends.{Gives}

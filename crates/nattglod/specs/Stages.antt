@@ -6,7 +6,7 @@ use mathlib.Core.List.{List}
 use lib.Dec.{ltb, eqb}
 use Rattle.language.specs.Objects.{Obj}
 use Rattle.language.specs.Forms.{Prog, mainForm}
-use Rattle.language.specs.Reading.{got, Placed, readProgram}
+use Rattle.language.specs.Reading.{got, Placed, readProgram, programOf}
 use Rattle.language.specs.Meanings.{one}
 use Rattle.language.specs.Evaluation.{Out, apply}
 use Rattle.language.specs.Answers.{writing}
@@ -14,7 +14,6 @@ use Rattle.language.specs.declared.Meter.{Meter}
 use Rattle.language.specs.declared.Answer.{Answer}
 use Rattle.language.specs.declared.Val.{Val}
 use Rattle.cells.specs.Cells.{Rep, Room, free}
-use Rattle.formtable.specs.Encoding.{programOf}
 use Rattle.primitives.specs.declared.Ended.{Ended}
 use Rattle.primitives.specs.Ends.{Gives}
 use Rattle.programs.specs.Definitions.{ProgramLaid}

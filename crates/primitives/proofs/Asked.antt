@@ -13,12 +13,11 @@ use Rattle.language.specs.Charging.{cellsCharge, cellsTaken}
 use Rattle.language.specs.declared.Meter.{Meter}
 use Rattle.language.specs.declared.Charge.{Charge}
 use Rattle.language.specs.declared.Charge.the-variants.{Granted, Spent}
-use Rattle.language.proofs.Charging.{cells-granted, cells-spent}
+use Rattle.language.proofs.Charging.{meter-same, cells-granted, cells-spent}
 use Rattle.cells.specs.Cells.{Room, free}
 use Rattle.cells.proofs.Reps.{free-is}
 use Rattle.lexer.specs.Vocabulary.{opCode, ruleCode, ruleAt}
 use Rattle.lexer.proofs.Words.{rule-of}
-use Rattle.equality.proofs.Comparisons.{meter-same}
 use Rattle.primitives.specs.Asking.{CellsAsked, Clipped, Reserves, reserved, too-few, Reserving}
 use Rattle.primitives.specs.declared.Reserved.the-variants.{At, Short}
 use Rattle.primitives.proofs.Ending.{free-low}

@@ -12,9 +12,9 @@ use Rattle.language.specs.Evaluation.{value, bottom, spent, noCell, askSteps, a
 use Rattle.language.specs.Charging.{cellsTaken}
 use Rattle.language.specs.declared.Meter.{Meter}
 use Rattle.language.specs.declared.Val.{Val}
+use Rattle.language.proofs.Charging.{meter-same}
 use Rattle.cells.specs.Cells.{Rep, Same, Room, free}
 use Rattle.cells.proofs.Reps.{same-refl}
-use Rattle.equality.proofs.Comparisons.{meter-same}
 use Rattle.primitives.specs.Ends.{Agree, Gives, gives-value, gives-bottom, gives-spent, Leaf}
 use Rattle.primitives.specs.Leaves.{LeafTwo}
 use Rattle.primitives.specs.declared.Ended.the-variants.{Done, Stop}

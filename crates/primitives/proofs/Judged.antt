@@ -18,7 +18,8 @@ use Rattle.cells.proofs.Reps.{same-refl}
 use Rattle.equality.specs.Looking.{stepsTaken, ended, Looks}
 use Rattle.equality.specs.declared.Compared.{Compared}
 use Rattle.equality.specs.declared.Compared.the-variants.{Equal, Differ, Out as Ran}
-use Rattle.equality.proofs.Comparisons.{meter-same, looks-as}
+use Rattle.language.proofs.Charging.{meter-same}
+use Rattle.equality.proofs.Comparisons.{looks-as}
 use Rattle.primitives.specs.Shapes.{truthVal, truthCode, ReadTruth, ReadAtom, ReadNull}
 use Rattle.primitives.specs.Ends.{Gives, gives-value, gives-spent}
 use Rattle.primitives.specs.Leaves.{LeafTwo, Plain, PlainTwo}

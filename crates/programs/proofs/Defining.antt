@@ -10,9 +10,9 @@ use borrow.Author.Tests.{eq-eqb, ne-eqb}
 use Rattle.language.specs.Forms.{Prog, formsOf, programCells}
 use Rattle.language.specs.Accepted.{IsName}
 use Rattle.language.specs.Tokens.{placeFrom}
-use Rattle.language.specs.Reading.{Got, got, no, andThen, Placed}
+use Rattle.language.specs.Reading.{Got, got, no, andThen, Placed, programOf}
 use Rattle.lexer.specs.Readings.{Skipped}
-use Rattle.formtable.specs.Encoding.{encodeForm, constantsFrom, encodeProgram, programConstants, programOf, encodeDefinitions}
+use Rattle.formtable.specs.Encoding.{encodeForm, constantsFrom, encodeProgram, programConstants, encodeDefinitions}
 use Rattle.formtable.proofs.Lengths.{length-program, length-program-constants}
 use Rattle.formtable.proofs.Appended.{programs-appended, program-constants-appended, definitions-appended}
 use Rattle.forms.specs.declared.Upto.{Upto}

@@ -8,8 +8,8 @@ use lib.Dec.{ltb}
 use lib.ListN.{length}
 use borrow.Author.Tests.{lt-ltb, le-ltb}
 use Rattle.language.specs.Forms.{formsOf, programCells}
-use Rattle.language.specs.Reading.{Got, got, no, andThen, Placed, noneTwice, withinLimits, readProgram}
-use Rattle.formtable.specs.Encoding.{encodeProgram, programConstants, programOf, encodeDefinitions}
+use Rattle.language.specs.Reading.{Got, got, no, andThen, Placed, programOf, noneTwice, withinLimits, readProgram}
+use Rattle.formtable.specs.Encoding.{encodeProgram, programConstants, encodeDefinitions}
 use Rattle.formtable.proofs.Lengths.{length-program, length-program-constants}
 use Rattle.programs.specs.declared.DefinitionsRead.{DefinitionsRead}
 use Rattle.programs.specs.declared.DefinitionsRead.the-variants as D

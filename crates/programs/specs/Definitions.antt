@@ -8,9 +8,9 @@ use lib.ListN.{length, getD}
 use Rattle.language.specs.Forms.{Prog, formsOf, programCells}
 use Rattle.language.specs.Accepted.{IsName}
 use Rattle.language.specs.Packing.{packed}
-use Rattle.language.specs.Reading.{Got, got, no, Placed, isIn, noneTwice, calls, readDefinitions}
+use Rattle.language.specs.Reading.{Got, got, no, Placed, programOf, isIn, noneTwice, calls, readDefinitions}
 use Rattle.tables.specs.Tables.{put, field, recordPut}
-use Rattle.formtable.specs.Encoding.{lowOf, highOf, encodeProgram, programConstants, programOf, encodeDefinitions}
+use Rattle.formtable.specs.Encoding.{lowOf, highOf, encodeProgram, programConstants, encodeDefinitions}
 use Rattle.forms.specs.declared.Upto.{Upto}
 use Rattle.forms.specs.declared.FormRead.{FormRead}
 use Rattle.forms.specs.declared.FormRead.the-variants as F

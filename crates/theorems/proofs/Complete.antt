@@ -10,6 +10,7 @@ use Rattle.language.specs.Objects.{Obj, int, symbol, seq, Objs, nil, lengthOf}
 use Rattle.language.specs.Forms.{Form, Prog}
 use Rattle.language.specs.Meanings.{Edition, gives, pair}
 use Rattle.language.specs.Evaluation.{Out, value, bottom as fallen, bind, askStep, askSteps, askCells, withNames, close, askName, charged, chainBy, constructBy, eachBy, insertBy, whileBy, decide, inside, apply}
+use Rattle.language.proofs.Charging.{meter-same}
 use Rattle.theorems.proofs.Ends.{Job, just, parts, items, each, fold, loop, Result, object, bottom, Ends, word-bottom, word-object, name-bottom, name-in, chain-in, construct-object, construct-bottom, constant-in, insert-fold, insert-nil, insert-int, insert-symbol, applyAll-object, applyAll-bottom, applyAll-int, applyAll-symbol, bu-in, condition-bottom, condition-no, condition-T, condition-F, while-in, parts-stop, parts-bottom, parts-go, items-stop, items-bottom, items-late, items-go, each-nil, each-bottom, each-late, each-go, fold-one, fold-bottom, fold-go, loop-bottom, loop-no, loop-F, loop-fell, loop-go}
 
 -- m′ is what is left of m after s steps and c cells
@@ -18,25 +19,22 @@ pub record Paid (m : Meter) (s c : ℕ) (m′ : Meter) : Type 0 where
   pub cells : m .cells ≡ c + m′ .cells
   pub names : m .names ≡ m′ .names
 
-pub meter-eq : (m m′ : Meter) → m .steps ≡ m′ .steps → m .names ≡ m′ .names → m .cells ≡ m′ .cells → m ≡ m′
-meter-eq m m′ p q r = λ i. record { steps = p i; names = q i; cells = r i }
-
 pub ask-step : {A : Type 0} (m m₁ : Meter) (k : Meter → Out A) → Paid m 1 0 m₁ → askStep m k ≡ k m₁
 ask-step m m₁ k p = go (m .steps) refl
   where
     go : (S : ℕ) → m .steps ≡ S → askStep m k ≡ k m₁
     go zero h = absurd (omega (arith, p .steps, h))
-    go (suc S) h = rw h (ap k (meter-eq _ _ (omega (arith, p .steps, h)) (p .names) (omega (arith, p .cells))))
+    go (suc S) h = rw h (ap k (meter-same _ _ (omega (arith, p .steps, h)) (p .names) (omega (arith, p .cells))))
 
 pub ask-steps : {A : Type 0} (s : ℕ) (m m₁ : Meter) (k : Meter → Out A) → Paid m s 0 m₁ → askSteps s m k ≡ k m₁
 ask-steps s m m₁ k p =
     let h : leb s (m .steps) ≡ true = le-leb s (m .steps) (omega (arith, p .steps)) in
-    rw (h, askSteps) (ap k (meter-eq _ _ (omega (arith, p .steps)) (p .names) (omega (arith, p .cells))))
+    rw (h, askSteps) (ap k (meter-same _ _ (omega (arith, p .steps)) (p .names) (omega (arith, p .cells))))
 
 pub ask-cells : {A : Type 0} (c : ℕ) (m m₁ : Meter) (k : Meter → Out A) → Paid m 0 c m₁ → askCells c m k ≡ k m₁
 ask-cells c m m₁ k p =
     let h : leb c (m .cells) ≡ true = le-leb c (m .cells) (omega (arith, p .cells)) in
-    rw (h, askCells) (ap k (meter-eq _ _ (omega (arith, p .steps)) (p .names) (omega (arith, p .cells))))
+    rw (h, askCells) (ap k (meter-same _ _ (omega (arith, p .steps)) (p .names) (omega (arith, p .cells))))
 
 abbrev pub mid : ℕ → ℕ → Meter → Meter
 mid s c m′ = record { steps = s + m′ .steps; names = m′ .names; cells = c + m′ .cells }
@@ -66,8 +64,8 @@ paid-word s c v {m} {m′} p =
     ∙ ask-cells c (mid 0 c m′) m′ (λ m₂. value v m₂) paid-right
 
 pub close-out : (r : Result) (N : ℕ) (m : Meter) → m .names ≡ suc N → close (suc N) (out r (withNames N m)) ≡ out r m
-close-out (object v) N m h = ap (value v) (meter-eq _ m refl (sym h) refl)
-close-out bottom N m h = ap fallen (meter-eq _ m refl (sym h) refl)
+close-out (object v) N m h = ap (value v) (meter-same _ m refl (sym h) refl)
+close-out bottom N m h = ap fallen (meter-same _ m refl (sym h) refl)
 
 pub ask-name : (m m′ : Meter) → m .names ≡ m′ .names → 1 ≤ m .names → (k : Meter → Out Obj) (r : Result)
     → ((N : ℕ) → m .names ≡ suc N → k (withNames N m) ≡ out r (withNames N m′)) → askName m k ≡ out r m′
@@ -79,7 +77,7 @@ ask-name m m′ h q k r f = go (m .names) refl
 
 -- nothing is left to pay
 pub done : {m m′ : Meter} → Paid m 0 0 m′ → m ≡ m′
-done {m} {m′} p = meter-eq m m′ (omega (arith, p .steps)) (p .names) (omega (arith, p .cells))
+done {m} {m′} p = meter-same m m′ (omega (arith, p .steps)) (p .names) (omega (arith, p .cells))
 
 module _ (e : Edition) (P : Prog) where
   pub just-pos : {d : ℕ} {f : Form} {x : Obj} {r : Result} {s c : ℕ} → Ends e P d (just f x) r s c → 1 ≤ s

@@ -6,7 +6,7 @@ use mathlib.Core.List.{List, [], _∷_, _++_}
 use mathlib.Core.Option.{Option, some, none}
 use native.Mathlib.Nat.{pow-suc, mul-le-mul-right}
 use native.Mathlib.Omega.{arith}
-use borrow.Author.Tests.{eqb-true, eqb-false, leb-true, leb-false}
+use borrow.Author.Tests.{eqb-false, leb-true, leb-false}
 use lib.Dec.{leb, eqb}
 use lib.IntN.{pos, negℤ}
 use lib.ListN.{length, take, drop, length-append, length-take, length-drop}
@@ -19,6 +19,7 @@ use Rattle.language.specs.Judging.{Judged, is, isNot, onJudged, all, isSymbolBy
 use Rattle.language.specs.Judging.{judgeInteger, judgeNegative, judgeAtom, findOp, isSelector, judgeSelector, wordForm, judgePart, judgeName}
 use Rattle.language.specs.Writing.{digits, decimal, writeInteger, writeObj, writeWord, writeForm, isChain, marksOfObj, marksOf}
 use Rattle.language.specs.Accepted.{IsObj, IsName, IsForm}
+use Rattle.language.proofs.Bytes.{same-bytes-is}
 use Rattle.theorems.proofs.Texts.{digit-range, lower-no-digit, upper-no-digit}
 use Rattle.theorems.proofs.Outcomes.{MeetsWord, meetsWord, misspelled, outOfRange, tooLong, word-cond}
 
@@ -125,23 +126,13 @@ pub record IsPartIn (n : ℕ) (f : Form) : Type 0 where
   pub noChain : isChain f ≡ false
   pub short : length (writeForm f) ≤ n
 
-pub same-bytes : (v w : List ℕ) → sameBytes v w ≡ true → v ≡ w
-same-bytes [] [] h = refl
-same-bytes [] (y ∷ w) h = let z : _≡_ {A = ℕ} 0 1 = cc in absurd (omega arith)
-same-bytes (x ∷ v) [] h = let z : _≡_ {A = ℕ} 0 1 = cc in absurd (omega arith)
-same-bytes (x ∷ v) (y ∷ w) h =
-    let q = and-eq-true-iff (eqb x y) (sameBytes v w) .0 h in
-    let e = eqb-true x y (q .0) in
-    let i = same-bytes v w (q .1) in
-    cc
-
 -- a word that is found is spelled so
 found-spelled : (os : List Op) (w : List ℕ) (o : Op) → findOp os w ≡ some o → entry o .spelled ≡ w
 found-spelled [] w o h = let z : _≡_ {A = ℕ} 0 1 = cc in absurd (omega arith)
 found-spelled (p ∷ os) w o h = go (λ g. found-spelled os w o g) (sameBytes (entry p .spelled) w) refl h
   where
     go : (findOp os w ≡ some o → entry o .spelled ≡ w) → (t : Bool) → sameBytes (entry p .spelled) w ≡ t → elim t [ true ↦ some p | false ↦ findOp os w ] ≡ some o → entry o .spelled ≡ w
-    go ih true e g = let q : p ≡ o = cc in rw (← q) (same-bytes (entry p .spelled) w e)
+    go ih true e g = let q : p ≡ o = cc in rw (← q) (same-bytes-is (entry p .spelled) w e)
     go ih false e g = ih g
 
 is-name : (b : ℕ) (w : List ℕ) → isDigit b ≡ false → all isNameByte (b ∷ w) ≡ true → length (b ∷ w) ≤ 12 → findOp ops (b ∷ w) ≡ none → IsName (b ∷ w)
@@ -203,7 +194,7 @@ judged-selector w =
     (λ u. word-cond (isSelector (take n w))
     (λ h.
     let k = selector-of (take n w) d h in
-    let q = ap (λ (l : List ℕ). length l) (same-bytes (drop n w) (bytes "r") u) in
+    let q = ap (λ (l : List ℕ). length l) (same-bytes-is (drop n w) (bytes "r") u) in
     meetsWord (record { isForm = (k .0, k .1); marks = omega arith; noChain = refl; short = rw length-append (omega arith) }))
     (λ h. outOfRange))
     (λ u. misspelled))

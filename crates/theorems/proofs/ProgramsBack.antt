@@ -1,6 +1,6 @@
 -- What is written of a well-formed program reads back.
 use mathlib.Core.Path.{_≡_, refl, ap}
-use mathlib.Core.List.{List, [], _∷_, _++_, map}
+use mathlib.Core.List.{List, [], _∷_, _++_}
 use Prim.Native.Nat.{ℕ, _+_, _*_, _≤_, _<_}
 use native.Mathlib.Omega.{arith}
 use borrow.Author.Tests.{eq-eqb, ne-eqb, le-ltb}
@@ -8,7 +8,7 @@ use lib.ListN.{length, drop, length-append, length-drop}
 use Rattle.language.specs.Forms.{name, Def, Prog, formsOf}
 use Rattle.language.specs.Tokens.{isWordByte}
 use Rattle.language.specs.Judging.{judgeName}
-use Rattle.language.specs.Reading.{Got, got, andThen, asJudged, wordAt, mark, readForm, Placed, definitionAt, readDefinitions, noneTwice, withinLimits, readProgram}
+use Rattle.language.specs.Reading.{Got, got, andThen, asJudged, wordAt, mark, readForm, Placed, programOf, definitionAt, readDefinitions, noneTwice, withinLimits, readProgram}
 use Rattle.language.specs.Writing.{writeForm, writeProgram, marksOf, marksOfProgram}
 use Rattle.language.specs.Accepted.{IsName, IsForm, AreDefinitions, Different, WellFormed}
 use Rattle.theorems.specs.ReadBack.{ProgramsReadBack}
@@ -79,17 +79,17 @@ definitions-back (d ∷ ds) s at k a m h n b =
     let r = definitions-back ds s (e₂ + 1) (i .0) (a .2) (omega arith) (drop-one s e₂ 59 l h₂) (omega arith) (omega (arith, i .1)) in
     rw (i .1, p, ne-eqb at (length s) (omega (arith, x .long)), g, andThen, r)
 
-placed-defs : (at : ℕ) (P : Prog) → map (λ (d : Placed). d .def) (placed at P) ≡ P
+placed-defs : (at : ℕ) (P : Prog) → programOf (placed at P) ≡ P
 unfolding placed
 placed-defs at [] = refl
 placed-defs at (d ∷ ds) = ap (λ (Q : Prog). d ∷ Q) (placed-defs (behind at d) ds)
 
-none-twice : (earlier : List (List ℕ)) (ds : List Placed) (good : Got Prog) → Different earlier (map (λ (d : Placed). d .def) ds) → noneTwice earlier ds good ≡ good
+none-twice : (earlier : List (List ℕ)) (ds : List Placed) (good : Got Prog) → Different earlier (programOf ds) → noneTwice earlier ds good ≡ good
 unfolding noneTwice
 none-twice earlier [] good h = refl
 none-twice earlier (d ∷ ds) good h = rw (h .0) (none-twice (d .def .called ∷ earlier) ds good (h .1))
 
-within-limits : (ds : List Placed) (e : ℕ) (P : Prog) → map (λ (d : Placed). d .def) ds ≡ P → WellFormed P → withinLimits ds e ≡ got P e
+within-limits : (ds : List Placed) (e : ℕ) (P : Prog) → programOf ds ≡ P → WellFormed P → withinLimits ds e ≡ got P e
 unfolding withinLimits
 within-limits ds e P q h =
     rw (q, le-ltb 2048 (formsOf P) (h .fewForms), le-ltb 128 (length P) (h .fewDefinitions), none-twice [] ds (got P e) (rw q (h .different)))

@@ -3,7 +3,7 @@ use Prim.Native.Nat.{ℕ, zero, suc, _+_, _-_, _≤_}
 use Prim.Native.Char.{code}
 use mathlib.Core.Path.{_≡_, refl}
 use mathlib.Core.Bool.{Bool, true, false, cond, _&&_, _||_}
-use mathlib.Core.List.{List, [], _∷_, _++_, map}
+use mathlib.Core.List.{List, [], _∷_, _++_}
 use native.Mathlib.Omega.{arith}
 use borrow.Author.Tests.{eqb-true, ltb-false}
 use lib.Dec.{eqb, ltb}
@@ -12,7 +12,7 @@ use Rattle.language.specs.Objects.{Obj}
 use Rattle.language.specs.Forms.{Form, construct, constant, insert, applyAll, bu, condition, while, Forms, stop, _&_, Prog, formsOf}
 use Rattle.language.specs.Tokens.{byteAt, placeFrom, sizeAt}
 use Rattle.language.specs.Reading.{Got, got, andThen, wordAt, mark, readObj, calls, markLimit, afterTest, afterPart, afterParts, afterForm}
-use Rattle.language.specs.Reading.{readForm, readParts, readForms, readPart, Placed, definitionAt, readDefinitions, isIn, noneTwice, withinLimits, readProgram}
+use Rattle.language.specs.Reading.{readForm, readParts, readForms, readPart, Placed, programOf, definitionAt, readDefinitions, isIn, noneTwice, withinLimits, readProgram}
 use Rattle.language.specs.Writing.{writeForm, writeParts, writeMoreParts, writeForms, writeMoreForms, writeProgram}
 use Rattle.language.specs.Writing.{isChain, bracketed, marksOf, bracketMarks, marksOfParts, marksOfForms, marksOfProgram}
 use Rattle.language.specs.Accepted.{IsForm, AreForms, IsName, OneOrMore, AreDefinitions, Different}
@@ -227,9 +227,6 @@ mutual
 
 -- ---- definitions
 
-abbrev defsOf : List Placed → Prog
-defsOf ds = map (λ (d : Placed). d .def) ds
-
 record DefinitionIn (at : ℕ) (d : Placed) (e : ℕ) : Type 0 where
   isName : IsName (d .def .called)
   isForm : IsForm (d .def .body)
@@ -237,10 +234,10 @@ record DefinitionIn (at : ℕ) (d : Placed) (e : ℕ) : Type 0 where
   short : at + length (d .def .called) + length (writeForm (d .def .body)) + 2 ≤ e
 
 record DefinitionsIn (s : List ℕ) (at : ℕ) (ds : List Placed) (e : ℕ) : Type 0 where
-  definitions : AreDefinitions (defsOf ds)
-  marks : marksOfProgram (defsOf ds) ≤ markLimit
+  definitions : AreDefinitions (programOf ds)
+  marks : marksOfProgram (programOf ds) ≤ markLimit
   ends : e ≡ length s
-  short : at + length (writeProgram (defsOf ds)) ≤ e
+  short : at + length (writeProgram (programOf ds)) ≤ e
 
 definition-in : (k : ℕ) (s : List ℕ) (at p : ℕ) (w : List ℕ) (e : ℕ) → IsName w → at + length w ≤ e → Meets (DefinitionIn at) (definitionAt k s p w e)
 unfolding definitionAt
@@ -275,7 +272,7 @@ definitions-in (suc k) s at =
 
 -- ---- programs
 
-none-twice : {Q : Prog → ℕ → Type 0} (earlier : List (List ℕ)) (ds : List Placed) (good : Got Prog) → (Different earlier (defsOf ds) → Meets Q good) → Meets Q (noneTwice earlier ds good)
+none-twice : {Q : Prog → ℕ → Type 0} (earlier : List (List ℕ)) (ds : List Placed) (good : Got Prog) → (Different earlier (programOf ds) → Meets Q good) → Meets Q (noneTwice earlier ds good)
 unfolding noneTwice
 none-twice earlier [] good f = f tt
 none-twice earlier (d ∷ ds) good f =
@@ -288,7 +285,7 @@ or-false false b h = (refl, h)
 within-limits : (s : List ℕ) (ds : List Placed) (e : ℕ) → DefinitionsIn s 0 ds e → Meets (ReadProgram s) (withinLimits ds e)
 unfolding withinLimits
 within-limits s ds e q =
-    let P = defsOf ds in
+    let P = programOf ds in
     meets-cond (ltb 2048 (formsOf P) || ltb 128 (length P)) (λ t. refuses)
     (λ t. none-twice [] ds (got P e) (λ h.
     let x = or-false (ltb 2048 (formsOf P)) (ltb 128 (length P)) t in

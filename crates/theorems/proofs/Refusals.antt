@@ -3,7 +3,7 @@ use Prim.Native.Nat.{ℕ, zero, suc, _+_, _-_, _≤_}
 use Prim.Native.Char.{code}
 use mathlib.Core.Path.{_≡_, refl}
 use mathlib.Core.Bool.{Bool, true, false, cond, _&&_, _||_, and-eq-true-iff}
-use mathlib.Core.List.{List, [], _∷_, map}
+use mathlib.Core.List.{List, [], _∷_}
 use native.Mathlib.Omega.{arith}
 use borrow.Author.Tests.{eqb-true}
 use lib.Dec.{leb, eqb, ltb}
@@ -13,7 +13,7 @@ use Rattle.language.specs.Forms.{Form, construct, constant, insert, applyAll, b
 use Rattle.language.specs.Tokens.{isBlank, isDigit, isLetter, isWordByte, byteAt, span, placeFrom, dashSize, size, sizeAt}
 use Rattle.language.specs.Judging.{Judged, isNot, judgeAtom, judgePart, judgeName, refusalOf}
 use Rattle.language.specs.Reading.{Got, got, no, andThen, wordAt, asJudged, refused, mark, opens, insideSequence, afterObject, readObj, readObjs, atEnd, markLimit, calls, readObject}
-use Rattle.language.specs.Reading.{afterTest, afterPart, afterParts, afterForm, readForm, readParts, readForms, readPart, Placed, definitionAt, readDefinitions, isIn, noneTwice, withinLimits, readProgram}
+use Rattle.language.specs.Reading.{afterTest, afterPart, afterParts, afterForm, readForm, readParts, readForms, readPart, Placed, programOf, definitionAt, readDefinitions, isIn, noneTwice, withinLimits, readProgram}
 use Rattle.theorems.specs.ReadBack.{Refusal, ObjectsRefused, ProgramsRefused}
 use Rattle.theorems.proofs.Outcomes.{Outcome, meets, refusesBy, MeetsWord, meetsWord, misspelled, outOfRange, tooLong, no-meets, meets-then, meets-cond, place-on, word-long}
 use Rattle.theorems.proofs.JudgedWords.{judged-atom, judged-part, judged-name}
@@ -357,6 +357,6 @@ pub programs-refused : ProgramsRefused
 unfolding readProgram withinLimits
 programs-refused s n p h =
     no-meets (meets-then (higher s (definitions-within (calls s) s 0 (omega arith))) (λ ds e q.
-    let P = map (λ (d : Placed). d .def) ds in
+    let P = programOf ds in
     meets-cond (ltb 2048 (formsOf P) || ltb 128 (length P)) (λ t. refusesBy {n = 10} {p = 0} (record { low = omega arith; high = omega arith; within = omega arith }))
     (λ t. none-twice-within s [] ds (got P e) q (meets tt)))) h
