@@ -81,7 +81,7 @@ pub fn step(
     }
 }
 
-// The parts of a chain whose last is at j, the last first.
+// The parts of a chain whose last part is the record `last`, the last first.
 pub fn chain(
     f: &[u32; 8192],
     c: &mut [u32],

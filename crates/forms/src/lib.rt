@@ -1,4 +1,4 @@
-// Forms in texts: read into the form table, their constants into cells. What may follow is at hand too: the marks.
+// Forms in texts: read into the form table, their constants into cells; and the marks between them.
 mod marks;
 mod plain;
 mod reader;

@@ -1,5 +1,6 @@
-// Forms and parts, which hold each other: each is read to the records from n on, its constants to the cells from c on. A form's
-// record stands before those of its parts. Readers call each other only where marks nest; parts and forms in a row are loops.
+// Forms and parts of the text s, which hold each other: each is read to the records of the form table t from n on, its constants
+// to the cells u from c on. A form's record stands before those of its parts. Readers call each other only where marks nest; parts
+// and forms in a row are loops.
 ghost use Prim.Native.Nat.{_+_, _≤_};
 ghost use Rattle.forms.specs.Readers.{formAt, partsAt, partAt, formsAt, prefixAt, constructAt, buAt, roundAt, closedAt, chainAt, whileAt, branchesAt, conditionAt};
 ghost use Rattle.forms.specs.Readings.{Ready, FormMet, FormsMet, BranchesMet, Continued};
