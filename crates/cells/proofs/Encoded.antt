@@ -4,6 +4,7 @@ use mathlib.Core.Path.{_≡_, refl, sym, ap, _∙_}
 use mathlib.Core.List.{List, [], _∷_, _++_, append-assoc}
 use native.Mathlib.Omega.{arith}
 use native.Mathlib.Nat.{add-zero}
+use borrow.Author.Tests.{ltb-true}
 use lib.IntN.{pos, negsuc}
 use lib.ListN.{getD, length, take, drop, length-append}
 use lib.Seq.{getD-drop, drop-drop, drop-append-seam, drop-at, length-take-le}
@@ -57,8 +58,8 @@ mutual
   unfolding cellsFrom placesFrom
 
   pub cells-rep : (x : Obj) (c n : ℕ) (t rest : List ℕ) → IsObj x → c + cellsOf x ≤ n → drop (c * 4) t ≡ cellsFrom c x ++ rest → Rep t n (valOf c x) x
-  cells-rep (int (pos k)) c n t rest i h d = rep-pos {k = k} refl refl (omega arith)
-  cells-rep (int (negsuc k)) c n t rest i h d = rep-neg {k = k} refl refl (omega arith)
+  cells-rep (int (pos k)) c n t rest i h d = rep-pos {k = k} refl refl (ltb-true k 2147483648 i)
+  cells-rep (int (negsuc k)) c n t rest i h d = rep-neg {k = k} refl refl (ltb-true k 2147483648 i)
   cells-rep (symbol w) c n t rest i h d = rep-symbol refl i refl
   cells-rep (seq xs) c n t rest i h d = places-rep xs c n t rest i h d
 

@@ -3,6 +3,7 @@ use Prim.Native.Nat.{ℕ, zero, suc, _+_, _*_, _≤_, _<_}
 use mathlib.Core.Path.{_≡_, refl, sym, ap, subst, _∙_}
 use mathlib.Core.List.{List, [], _∷_}
 use native.Mathlib.Omega.{arith}
+use borrow.Author.Tests.{lt-ltb}
 use lib.IntN.{ℤ, pos, negsuc}
 use Rattle.language.specs.Objects.{Obj, int, symbol, seq, Objs, nil, _::_, lengthOf}
 use Rattle.language.specs.Accepted.{IsSymbol, IsObj}
@@ -116,8 +117,8 @@ rep-word (rep-symbol t i e) = rep-symbol t i e
 
 -- ---- what stands in cells is an object of the language
 pub rep-object : {C : List ℕ} {n : ℕ} {v : Val} {x : Obj} → Rep C n v x → IsObj x
-rep-object (rep-pos t e b) = omega arith
-rep-object (rep-neg t e b) = omega arith
+rep-object (rep-pos {k = k} t e b) = lt-ltb k 2147483648 b
+rep-object (rep-neg {k = k} t e b) = lt-ltb k 2147483648 b
 rep-object (rep-symbol t i e) = i
 rep-object (rep-nil t e) = tt
 rep-object (rep-more t e l a b) = (rep-object a, rep-object b)

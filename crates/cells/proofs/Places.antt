@@ -5,12 +5,12 @@ use mathlib.Core.List.{List, [], _∷_}
 use native.Mathlib.Omega.{arith}
 use native.Mathlib.Numerals.{add-one}
 use lib.ListN.{getD, length}
-use Rattle.language.specs.Objects.{Obj, seq, Objs, nil, _::_, lengthOf}
+use Rattle.language.specs.Objects.{Obj, seq, Objs, nil, _::_, lengthOf, nthObj}
 use Rattle.language.specs.Meanings.{gives, nth}
 use Rattle.language.specs.declared.Val.{Val}
 use Rattle.tables.specs.Tables.{field}
 use Rattle.cells.specs.Cells.{Rep, rep-nil, rep-more, valAt, nextAt, sequenceVal, Same, cellPut}
-use Rattle.cells.specs.Parts.{sizeOf, firstOf, headOf, tailOf, Sized, Headed, Tailed, nthObj, dropObjs, Nth, Paired, heldAt, onto, Held, no-held, a-held, Gathered}
+use Rattle.cells.specs.Parts.{sizeOf, firstOf, headOf, tailOf, Sized, Headed, Tailed, dropObjs, Nth, Paired, heldAt, onto, Held, no-held, a-held, Gathered}
 use Rattle.cells.proofs.Reps.{val-same, same-refl, same-trans, rep-ext, length-cell, cell-same, rep-new}
 
 -- ---- size, first place, rest

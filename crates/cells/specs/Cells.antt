@@ -4,6 +4,7 @@ use mathlib.Core.Path.{_≡_}
 use mathlib.Core.List.{List, [], _∷_}
 use lib.IntN.{pos, negsuc}
 use lib.ListN.{getD, length}
+use Rattle.language.specs.Numbers.{half, one}
 use Rattle.language.specs.Objects.{Obj, int, symbol, seq, Objs, nil, _::_, lengthOf}
 use Rattle.language.specs.Accepted.{IsSymbol}
 use Rattle.language.specs.Packing.{packed}
@@ -24,8 +25,8 @@ sequenceVal link n = record { tag = 3; word = link + 4294967296 * n }
 
 -- In the first n cells of C the value stands for the object.
 pub data Rep (C : List ℕ) (n : ℕ) : Val → Obj → Type 0 where
-  rep-pos : {v : Val} {k : ℕ} → v .tag ≡ 0 → v .word ≡ k → k < 2147483648 → Rep C n v (int (pos k))
-  rep-neg : {v : Val} {k : ℕ} → v .tag ≡ 1 → v .word ≡ k → k < 2147483648 → Rep C n v (int (negsuc k))
+  rep-pos : {v : Val} {k : ℕ} → v .tag ≡ 0 → v .word ≡ k → k < half one → Rep C n v (int (pos k))
+  rep-neg : {v : Val} {k : ℕ} → v .tag ≡ 1 → v .word ≡ k → k < half one → Rep C n v (int (negsuc k))
   rep-symbol : {v : Val} {w : List ℕ} → v .tag ≡ 2 → IsSymbol w → v .word ≡ packed w → Rep C n v (symbol w)
   rep-nil : {v : Val} → v .tag ≡ 3 → v .word ≡ 0 → Rep C n v (seq nil)
   rep-more : {v : Val} {p : ℕ} {x : Obj} {xs : Objs} → v .tag ≡ 3 → v .word ≡ suc p + 4294967296 * suc (lengthOf xs) → p < n → Rep C n (valAt C p) x → Rep C n (sequenceVal (nextAt C p) (lengthOf xs)) (seq xs) → Rep C n v (seq (x :: xs))

@@ -3,7 +3,7 @@ use Prim.Native.Nat.{ℕ, zero, suc, _+_, _-_, _*_, _/_, _%_, _≤_, _<_}
 use mathlib.Core.Path.{_≡_}
 use mathlib.Core.List.{List, [], _∷_}
 use lib.ListN.{length}
-use Rattle.language.specs.Objects.{Obj, int, symbol, seq, Objs, nil, _::_, lengthOf}
+use Rattle.language.specs.Objects.{Obj, int, symbol, seq, Objs, nil, _::_, lengthOf, nthObj}
 use Rattle.language.specs.declared.Val.{Val}
 use Rattle.cells.specs.Cells.{Rep, Same, valAt, nextAt, sequenceVal, cellPut}
 
@@ -33,12 +33,7 @@ pub record Tailed (C : List ℕ) (v r : Val) : Type 0 where
   pub is : r ≡ tailOf C v
   pub means : (n : ℕ) (x : Obj) (xs : Objs) → n < 4294967296 → Rep C n v (seq (x :: xs)) → Rep C n r (seq xs)
 
--- the object in place k, counted from 0, and those that follow the first k
-unfoldable pub nthObj : Objs → ℕ → Obj
-nthObj nil k = seq nil
-nthObj (x :: xs) zero = x
-nthObj (x :: xs) (suc k) = nthObj xs k
-
+-- the objects that follow the first k
 unfoldable pub dropObjs : Objs → ℕ → Objs
 dropObjs xs zero = xs
 dropObjs nil (suc k) = nil

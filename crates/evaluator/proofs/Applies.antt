@@ -6,7 +6,8 @@ use mathlib.Core.List.{List, [], _∷_}
 use lib.ListN.{length}
 use Rattle.language.specs.Objects.{Obj, int, symbol, seq, Objs, nil, _::_, lengthOf}
 use Rattle.language.specs.Forms.{op, select, selectRight, Form, word, name, chain, construct, constant, insert, applyAll, bu, condition, while, Forms, stop, _&_, count}
-use Rattle.language.specs.Meanings.{one, pair}
+use Rattle.language.specs.Numbers.{one}
+use Rattle.language.specs.Meanings.{pair}
 use Rattle.language.specs.declared.Meter.{Meter}
 use Rattle.language.specs.declared.Charge.{Charge}
 use Rattle.language.specs.declared.Charge.the-variants.{Granted, Spent}
@@ -19,8 +20,8 @@ use Rattle.language.specs.Forms.{Prog, mainForm}
 use Rattle.language.specs.Accepted.{IsName}
 use Rattle.language.specs.Meanings.{meaning}
 use Rattle.language.specs.Evaluation.{Out, value, bottom, spent, charged, inside, apply, lookup, noStep}
-use Rattle.language.specs.Charging.{stepCharge, onCharge}
-use Rattle.language.proofs.Charging.{Left, step-asked, step-granted, step-spent}
+use Rattle.language.specs.Charging.{stepCharge}
+use Rattle.language.proofs.Charging.{Left, step-asked, step-granted, step-spent, onCharge}
 use Rattle.tables.specs.Tables.{field}
 use Rattle.cells.specs.Cells.{Rep, Room, free}
 use Rattle.cells.proofs.Reps.{same-refl, rep-ext}

@@ -10,13 +10,13 @@ use lib.ListN.{length}
 use Rattle.language.specs.Objects.{Obj, truthOf, Truth, isT, isF, neither}
 use Rattle.language.specs.Forms.{Form, Forms, stop, _&_, _+&_}
 use Rattle.language.specs.Accepted.{IsName}
-use Rattle.language.specs.Evaluation.{Out, value, bottom, spent, bind, close, withNames, Apply, apply, lookup, askName, chainBy, decide, noName}
-use Rattle.language.specs.Charging.{stepCharge, cellsCharge, nameCharge, closed, onCharge}
+use Rattle.language.specs.Evaluation.{Out, value, bottom, spent, bind, close, Apply, apply, lookup, askName, chainBy, decide, noName}
+use Rattle.language.specs.Charging.{stepCharge, cellsCharge, nameCharge, closed, withNames}
 use Rattle.language.specs.declared.Meter.{Meter}
 use Rattle.language.specs.declared.Charge.{Charge}
 use Rattle.language.specs.declared.Charge.the-variants.{Granted, Spent}
 use Rattle.language.specs.declared.Val.{Val}
-use Rattle.language.proofs.Charging.{Left, name-asked, closed-is, name-granted, name-spent}
+use Rattle.language.proofs.Charging.{Left, name-asked, closed-is, name-granted, name-spent, onCharge}
 use Rattle.cells.specs.Cells.{Rep, Same, Room, free}
 use Rattle.primitives.specs.declared.Ended.{Ended}
 use Rattle.primitives.specs.declared.Ended.the-variants.{Done, Stop}

@@ -4,9 +4,10 @@ use native.Mathlib.Omega.{arith}
 use mathlib.Core.Path.{_≡_, refl, sym, ap, subst, _∙_}
 use mathlib.Core.List.{List, [], _∷_}
 use lib.ListN.{length}
-use Rattle.language.specs.Objects.{Obj, int, symbol, seq, Objs, nil, _::_, lengthOf}
+use Rattle.language.specs.Objects.{Obj, int, symbol, seq, Objs, nil, _::_, lengthOf, nthObj}
 use Rattle.language.specs.Forms.{op, select, selectRight, Form, word, name, chain, construct, constant, insert, applyAll, bu, condition, while, Forms, stop, _&_, count}
-use Rattle.language.specs.Meanings.{one, pair}
+use Rattle.language.specs.Numbers.{one}
+use Rattle.language.specs.Meanings.{pair}
 use Rattle.language.specs.declared.Meter.{Meter}
 use Rattle.language.specs.declared.Charge.{Charge}
 use Rattle.language.specs.declared.Charge.the-variants.{Granted, Spent}
@@ -15,10 +16,10 @@ use Rattle.primitives.specs.declared.Ended.{Ended}
 use Rattle.primitives.specs.declared.Ended.the-variants.{Done, Stop}
 use Rattle.evaluator.specs.Ring.{Kept, Finished, Stopped, fell, ran-out, Ends, ends-done, ends-stop}
 use Rattle.language.specs.Evaluation.{Out, value, bottom, spent, bind, Apply, askCells, insertOn, noCell}
-use Rattle.language.specs.Charging.{cellsCharge, onCharge}
-use Rattle.language.proofs.Charging.{Left, cells-asked, cells-granted}
+use Rattle.language.specs.Charging.{cellsCharge}
+use Rattle.language.proofs.Charging.{Left, cells-asked, cells-granted, onCharge}
 use Rattle.cells.specs.Cells.{Rep, rep-pos, rep-neg, rep-symbol, rep-nil, rep-more, Same, Room, free}
-use Rattle.cells.specs.Parts.{Sized, Nth, nthObj, dropObjs, Paired, onto}
+use Rattle.cells.specs.Parts.{Sized, Nth, dropObjs, Paired, onto}
 use Rattle.cells.proofs.Reps.{same-trans, rep-ext, free-is, free-room}
 use Rattle.cells.proofs.Places.{drop-first}
 use Rattle.evaluator.specs.Applying.{Setting, by, At, Given, Applied, Falls, Sinks, Bound, Inserted, Folded, onPairOf}

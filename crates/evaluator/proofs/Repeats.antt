@@ -6,7 +6,8 @@ use mathlib.Core.List.{List, [], _∷_}
 use lib.ListN.{length}
 use Rattle.language.specs.Objects.{Obj, int, symbol, seq, Objs, nil, _::_, lengthOf}
 use Rattle.language.specs.Forms.{op, select, selectRight, Form, word, name, chain, construct, constant, insert, applyAll, bu, condition, while, Forms, stop, _&_, count}
-use Rattle.language.specs.Meanings.{one, pair}
+use Rattle.language.specs.Numbers.{one}
+use Rattle.language.specs.Meanings.{pair}
 use Rattle.language.specs.declared.Meter.{Meter}
 use Rattle.language.specs.declared.Charge.{Charge}
 use Rattle.language.specs.declared.Charge.the-variants.{Granted, Spent}
@@ -16,8 +17,8 @@ use Rattle.primitives.specs.declared.Ended.the-variants.{Done, Stop}
 use Rattle.evaluator.specs.Ring.{Kept, Finished, Stopped, fell, ran-out, Ends, ends-done, ends-stop}
 use Rattle.language.specs.Objects.{truthOf, isT, isF, neither}
 use Rattle.language.specs.Evaluation.{Out, value, bottom, spent, bind, decide, whileBy, apply, inside, askStep, noStep}
-use Rattle.language.specs.Charging.{stepCharge, onCharge}
-use Rattle.language.proofs.Charging.{step-asked}
+use Rattle.language.specs.Charging.{stepCharge}
+use Rattle.language.proofs.Charging.{step-asked, onCharge}
 use Rattle.cells.specs.Cells.{Rep, Room, free}
 use Rattle.evaluator.specs.declared.waiting.Asked.{Asked}
 use Rattle.evaluator.specs.declared.waiting.Asked.the-variants.{Says, Stop as AskStop}

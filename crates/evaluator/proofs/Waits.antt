@@ -9,12 +9,12 @@ use lib.ListN.{length}
 use lib.Dec.{leb}
 use Rattle.language.specs.Objects.{Obj, seq, Objs, nil, _::_, lengthOf}
 use Rattle.language.specs.Evaluation.{Out, value, bottom, spent, bind, askCells, gathered, noCell}
-use Rattle.language.specs.Charging.{cellsCharge, onCharge}
+use Rattle.language.specs.Charging.{cellsCharge}
 use Rattle.language.specs.declared.Meter.{Meter}
 use Rattle.language.specs.declared.Charge.{Charge}
 use Rattle.language.specs.declared.Charge.the-variants.{Granted, Spent}
 use Rattle.language.specs.declared.Val.{Val}
-use Rattle.language.proofs.Charging.{Left, cells-asked, cells-granted, cells-spent}
+use Rattle.language.proofs.Charging.{Left, cells-asked, cells-granted, cells-spent, onCharge}
 use Rattle.tables.specs.Tables.{field}
 use Rattle.tables.proofs.Records.{record-behind}
 use Rattle.cells.specs.Cells.{Rep, Same, Room, free, valAt, cellPut}

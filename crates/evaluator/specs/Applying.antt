@@ -4,16 +4,17 @@ use mathlib.Core.Path.{_≡_}
 use mathlib.Core.List.{List, [], _∷_}
 use mathlib.Core.Option.{Option, some, none}
 use lib.ListN.{length, getD}
-use Rattle.language.specs.Objects.{Obj, seq, Objs, nil, _::_, lengthOf, truthOf, Truth, isT, isF, neither}
+use Rattle.language.specs.Objects.{Obj, seq, Objs, nil, _::_, lengthOf, truthOf, Truth, isT, isF, neither, nthObj}
 use Rattle.language.specs.Forms.{Form, construct, Forms, Prog, count, mainForm, select, selectRight}
 use Rattle.language.specs.Bytes.{bytes}
-use Rattle.language.specs.Meanings.{one, pair}
+use Rattle.language.specs.Numbers.{one}
+use Rattle.language.specs.Meanings.{pair}
 use Rattle.language.specs.Evaluation.{Out, value, bottom, bind, Apply, apply, lookup, askName, askCells, chainBy, constructBy, gathered, applyAllOn, insertOn, whileBy, decide}
 use Rattle.language.specs.Accepted.{IsName}
 use Rattle.language.specs.declared.Meter.{Meter}
 use Rattle.language.specs.declared.Val.{Val}
 use Rattle.cells.specs.Cells.{Rep, Same, Room, free}
-use Rattle.cells.specs.Parts.{heldAt, holdAt, onto, Held, nthObj}
+use Rattle.cells.specs.Parts.{heldAt, holdAt, onto, Held}
 use Rattle.primitives.specs.declared.Ended.{Ended}
 use Rattle.primitives.specs.declared.Ended.the-variants.{Done, Stop}
 use Rattle.primitives.specs.Ends.{Gives, Leaf}

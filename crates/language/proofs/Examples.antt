@@ -11,6 +11,8 @@ use Rattle.language.specs.Bytes.{bytes}
 use Rattle.language.specs.Tokens.{span, placeFrom, size, sizeAt, dashSize, tokenFrom}
 use Rattle.language.specs.Judging.{judgeWord, valueFrom, judgeInteger, judgeNegative, judgeAtom, judgeSelector, wordForm, judgePart, judgeName, refusalOf}
 use Rattle.language.specs.Reading.{Got, got, no, andThen, refused, mark, opens, insideSequence, afterObject, readObj, atEnd, readObject, afterTest, afterPart, afterParts, afterForm, readForm, definitionAt, readDefinitions, isIn, noneTwice, withinLimits, readProgram}
+use Rattle.language.specs.Objects.{nthObj}
+use Rattle.language.specs.Meanings.{areRows, columnAt, columnsAt}
 use Rattle.language.specs.Writing.{digits, decimal, writeInteger, writeObj, writeWord, writeForm, writeProgram, scan}
 use Rattle.language.specs.Answers.{Lent, Outcome, runCall, lawCall, simplifyCall}
 use Rattle.language.specs.Fprun.{split, numbers, shown, fprun}
@@ -137,7 +139,7 @@ words =
     ∷ []
 
 words-answer : map runs words ≡ map (λ (r : RunCase). r .says) words
-unfolding runCall readProgram readDefinitions definitionAt withinLimits noneTwice isIn readForm afterPart afterParts afterForm afterTest readObject readObj atEnd afterObject insideSequence opens mark refused refusalOf judgeName judgePart wordForm judgeSelector judgeAtom judgeNegative judgeInteger valueFrom judgeWord dashSize sizeAt size placeFrom span digits decimal writeInteger writeObj scan
+unfolding runCall readProgram readDefinitions definitionAt withinLimits noneTwice isIn readForm afterPart afterParts afterForm afterTest readObject readObj atEnd afterObject insideSequence opens mark refused refusalOf judgeName judgePart wordForm judgeSelector judgeAtom judgeNegative judgeInteger valueFrom judgeWord dashSize sizeAt size placeFrom span digits decimal writeInteger writeObj scan areRows columnAt columnsAt nthObj
 words-answer = refl
 
 -- forms, budgets and the order of the answers
@@ -259,5 +261,5 @@ outputs =
     ∷ "99\n" ∷ "99\n" ∷ "99\n" ∷ "99\n" ∷ "99\n" ∷ "99\n" ∷ "99\n" ∷ "99\n" ∷ []
 
 fprun-prints : map (λ (s : String). fprun (bytes s)) inputs ≡ map bytes outputs
-unfolding fprun shown numbers split runCall readProgram readDefinitions definitionAt withinLimits noneTwice isIn readForm afterPart afterParts afterForm afterTest readObject readObj atEnd afterObject insideSequence opens mark refused refusalOf judgeName judgePart wordForm judgeSelector judgeAtom judgeNegative judgeInteger valueFrom judgeWord dashSize sizeAt size placeFrom span digits decimal writeInteger writeObj scan
+unfolding fprun shown numbers split runCall readProgram readDefinitions definitionAt withinLimits noneTwice isIn readForm afterPart afterParts afterForm afterTest readObject readObj atEnd afterObject insideSequence opens mark refused refusalOf judgeName judgePart wordForm judgeSelector judgeAtom judgeNegative judgeInteger valueFrom judgeWord dashSize sizeAt size placeFrom span digits decimal writeInteger writeObj scan areRows columnAt columnsAt nthObj
 fprun-prints = refl

@@ -6,28 +6,28 @@ use mathlib.Core.List.{List, [], _∷_}
 use mathlib.Core.Option.{none}
 use lib.IntN.{ℤ, pos, negsuc}
 use lib.ListN.{length}
+use Rattle.language.specs.Numbers.{programLimit, formLimit, definitionLimit, markLimit, wordLimit, selectorLimit, one, inRange}
 use Rattle.language.specs.Objects.{Obj, int, symbol, seq, Objs, nil, _::_}
 use Rattle.language.specs.Words.{ops}
 use Rattle.language.specs.Forms.{Form, word, name, chain, construct, constant, insert, applyAll, bu, condition, while, Forms, stop, _&_, Word, select, selectRight, op, Def, Prog, formsOf}
 use Rattle.language.specs.Tokens.{isLower, isUpper}
 use Rattle.language.specs.Judging.{all, isSymbolByte, isNameByte, findOp}
-use Rattle.language.specs.Reading.{got, readProgram, isIn, markLimit}
+use Rattle.language.specs.Reading.{got, readProgram, isIn}
 use Rattle.language.specs.Writing.{marksOfProgram}
 
 -- A program is accepted if a text of at most 8,192 bytes reads as it.
 pub record Accepted (P : Prog) : Type 0 where
   pub text : List ℕ
-  pub short : length text ≤ 8192
+  pub short : length text ≤ programLimit
   pub reads : readProgram text ≡ got P (length text)
 
 -- The trees that texts hold.
 abbrev pub IsInteger : ℤ → Type 0
-IsInteger (pos n) = n ≤ 2147483647
-IsInteger (negsuc n) = n ≤ 2147483647
+IsInteger z = inRange one z ≡ true
 
 abbrev pub IsSymbol : List ℕ → Type 0
 IsSymbol [] = ⊥
-IsSymbol (b ∷ w) = (isUpper b ≡ true) × (all isSymbolByte w ≡ true) × (length (b ∷ w) ≤ 12)
+IsSymbol (b ∷ w) = (isUpper b ≡ true) × (all isSymbolByte w ≡ true) × (length (b ∷ w) ≤ wordLimit)
 
 abbrev mutual
   pub IsObj : Obj → Type 0
@@ -41,11 +41,11 @@ abbrev mutual
 
 abbrev pub IsName : List ℕ → Type 0
 IsName [] = ⊥
-IsName (b ∷ w) = (isLower b ≡ true) × (all isNameByte w ≡ true) × (length (b ∷ w) ≤ 12) × (findOp ops (b ∷ w) ≡ none)
+IsName (b ∷ w) = (isLower b ≡ true) × (all isNameByte w ≡ true) × (length (b ∷ w) ≤ wordLimit) × (findOp ops (b ∷ w) ≡ none)
 
 abbrev pub IsWord : Word → Type 0
-IsWord (select k) = (1 ≤ k) × (k ≤ 255)
-IsWord (selectRight k) = (1 ≤ k) × (k ≤ 255)
+IsWord (select k) = (1 ≤ k) × (k ≤ selectorLimit)
+IsWord (selectRight k) = (1 ≤ k) × (k ≤ selectorLimit)
 IsWord (op o) = Unit {0}
 
 abbrev pub OneOrMore : Forms → Type 0
@@ -86,6 +86,6 @@ Different earlier (d ∷ ds) = (isIn (d .called) earlier ≡ false) × Different
 pub record WellFormed (P : Prog) : Type 0 where
   pub definitions : AreDefinitions P
   pub different : Different [] P
-  pub fewForms : formsOf P ≤ 2048
-  pub fewDefinitions : length P ≤ 128
+  pub fewForms : formsOf P ≤ formLimit
+  pub fewDefinitions : length P ≤ definitionLimit
   pub fewMarks : marksOfProgram P ≤ markLimit

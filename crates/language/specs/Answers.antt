@@ -9,7 +9,7 @@ use Rattle.language.specs.Objects.{Obj}
 use Rattle.language.specs.Forms.{Prog}
 use Rattle.language.specs.Reading.{Got, got, no, readObject, readProgram}
 use Rattle.language.specs.Writing.{writeObj, writeProgram, Scan, on, short, deep, scan}
-use Rattle.language.specs.Meanings.{one}
+use Rattle.language.specs.Numbers.{programLimit, objectLimit, stepLimit, nameLimit, cellLimit, formTable, cellTable, writtenLimit, one}
 use Rattle.language.specs.Evaluation.{Spent, noStep, noName, noCell, RunEnd, done, fell, ranOut, tooFew, run}
 use Rattle.language.specs.Laws.{Law}
 use Rattle.language.specs.Uses.{Simplified, simplify, applyLaw, lawNumbered}
@@ -56,7 +56,7 @@ written lent s c text =
 
 -- the bytes that a text may have: 25 if it is longer
 abbrev pub roomIn : Lent → ℕ
-roomIn lent = min (length (lent .output)) 16384
+roomIn lent = min (length (lent .output)) writtenLimit
 
 -- The object to be written: 20, 25 or 26.
 abbrev pub scanned : Lent → (steps cells : ℕ) → Obj → Scan → Outcome
@@ -87,11 +87,11 @@ onRead lent t (no n p) k = unwritten lent (at n p t)
 unfoldable pub runCall : (program object : List ℕ) → Meter → Lent → Outcome
 runCall program object budgets lent =
     let follows = onRead lent 1 (readProgram program) (λ P. onRead lent 2 (readObject object) (λ x. ended lent (run one P x budgets))) in
-    cond (ltb 8192 (length program)) (untouched 1 lent)
-    (cond (ltb 16384 (length object)) (untouched 2 lent)
-    (cond (ltb 1000000 (budgets .steps)) (untouched 3 lent)
-    (cond (ltb 256 (budgets .names)) (untouched 4 lent)
-    (cond (ltb 4096 (budgets .cells) || not (eqb (length (lent .forms)) 8192) || not (eqb (length (lent .cells)) (4 * budgets .cells))) (untouched 5 lent)
+    cond (ltb programLimit (length program)) (untouched 1 lent)
+    (cond (ltb objectLimit (length object)) (untouched 2 lent)
+    (cond (ltb stepLimit (budgets .steps)) (untouched 3 lent)
+    (cond (ltb nameLimit (budgets .names)) (untouched 4 lent)
+    (cond (ltb cellLimit (budgets .cells) || not (eqb (length (lent .forms)) formTable) || not (eqb (length (lent .cells)) (cellTable (budgets .cells)))) (untouched 5 lent)
     follows))))
 
 -- For the laws, 20 and 25 carry the uses made as steps; cells is 0.
@@ -103,8 +103,8 @@ rewritten lent uses Q =
 abbrev pub withProgram : List ℕ → Lent → (Prog → Outcome) → Outcome
 withProgram program lent k =
     let follows = onRead lent 1 (readProgram program) k in
-    cond (ltb 8192 (length program)) (untouched 1 lent)
-    (cond (not (eqb (length (lent .forms)) 8192) || not (eqb (length (lent .cells)) 16384)) (untouched 5 lent)
+    cond (ltb programLimit (length program)) (untouched 1 lent)
+    (cond (not (eqb (length (lent .forms)) formTable) || not (eqb (length (lent .cells)) (cellTable cellLimit))) (untouched 5 lent)
     follows)
 
 -- A law call: 15, 14, 25. A place that no form has gives 14.

@@ -1,39 +1,39 @@
--- What the meter's methods answer: the meter with what was asked for taken from it, or the meter as it was.
+-- What a meter grants: a step, cells, an open name. The evaluation and the meter's methods both say it by these three.
 use Prim.Native.Nat.{ℕ, zero, suc, _+_, _-_}
-use mathlib.Core.Bool.{cond}
-use lib.Dec.{eqb, leb}
-use Rattle.language.specs.Evaluation.{Out, spent, close, Spent as Budget}
+use mathlib.Core.Bool.{true, false, cond}
+use lib.Dec.{leb}
 use Rattle.language.specs.declared.Meter.{Meter}
 use Rattle.language.specs.declared.Charge.{Charge}
 use Rattle.language.specs.declared.Charge.the-variants.{Granted, Spent}
 
--- one step less
-abbrev pub stepTaken : Meter → Meter
-stepTaken m = record { steps = m .steps - 1; names = m .names; cells = m .cells }
+-- One step, if one is left: what follows is given the meter without it, or the meter as it was.
+abbrev pub takeStep : {A : Type 0} → Meter → (refused granted : Meter → A) → A
+takeStep m refused granted = elim (m .steps) [ zero ↦ refused m | suc s ↦ granted (record { steps = s; names = m .names; cells = m .cells }) ]
 
--- n cells less
+-- All cells at once: a refused request takes none.
 abbrev pub cellsTaken : ℕ → Meter → Meter
 cellsTaken n m = record { steps = m .steps; names = m .names; cells = m .cells - n }
 
--- one name less may open
-abbrev pub nameTaken : Meter → Meter
-nameTaken m = record { steps = m .steps; names = m .names - 1; cells = m .cells }
+abbrev pub takeCells : {A : Type 0} → ℕ → Meter → (refused granted : Meter → A) → A
+takeCells n m refused granted = elim (leb n (m .cells)) [ true ↦ granted (cellsTaken n m) | false ↦ refused m ]
 
+abbrev pub withNames : ℕ → Meter → Meter
+withNames d m = record { steps = m .steps; names = d; cells = m .cells }
+
+-- One more open name, if one may open.
+abbrev pub takeName : {A : Type 0} → Meter → (refused granted : Meter → A) → A
+takeName m refused granted = elim (m .names) [ zero ↦ refused m | suc d ↦ granted (withNames d m) ]
+
+-- The same as answers of the meter's methods.
 unfoldable pub stepCharge : Meter → Charge
-stepCharge m = cond (eqb (m .steps) 0) (Spent m) (Granted (stepTaken m))
+stepCharge m = takeStep m Spent Granted
 
--- all at once: a refused request takes none
 unfoldable pub cellsCharge : ℕ → Meter → Charge
-cellsCharge n m = cond (leb n (m .cells)) (Granted (cellsTaken n m)) (Spent m)
+cellsCharge n m = takeCells n m Spent Granted
 
 unfoldable pub nameCharge : Meter → Charge
-nameCharge m = cond (eqb (m .names) 0) (Spent m) (Granted (nameTaken m))
+nameCharge m = takeName m Spent Granted
 
 -- One more name may open again. The largest u32 stays as it is: no budget is so large that a name is closed at it.
 unfoldable pub closed : Meter → Meter
 closed m = cond (leb 4294967295 (m .names)) m (record { steps = m .steps; names = m .names + 1; cells = m .cells })
-
--- what follows goes on with the meter that is left, or the budget w is spent
-abbrev pub onCharge : {A : Type 0} → Charge → Budget → (Meter → Out A) → Out A
-onCharge (Granted m) w k = k m
-onCharge (Spent m) w k = spent w m

@@ -7,7 +7,9 @@ use lib.Dec.{leb}
 use Rattle.language.specs.Bytes.{sameBytes}
 use Rattle.language.specs.Objects.{Obj, int, symbol, seq, Objs, nil, _::_, lengthOf, cellsOf, truthOf, isT, isF, neither}
 use Rattle.language.specs.Forms.{Form, word, name, chain, construct, constant, insert, applyAll, bu, condition, while, Forms, stop, _&_, Def, Prog, programCells, mainForm}
-use Rattle.language.specs.Meanings.{Edition, WordAnswer, falls, gives, meaning, pair}
+use Rattle.language.specs.Numbers.{Edition}
+use Rattle.language.specs.Meanings.{WordAnswer, falls, gives, meaning, pair}
+use Rattle.language.specs.Charging.{takeStep, takeCells, takeName, withNames}
 use Rattle.language.specs.declared.Meter.{Meter}
 
 -- 22, 23, 24: a step, an open name or a cell more than the budget
@@ -27,7 +29,7 @@ bind (spent w m) k = spent w m
 
 -- The meter holds what is left of each budget. What is asked for is taken from it, and what follows goes on with the rest.
 abbrev pub askStep : {A : Type 0} → Meter → (Meter → Out A) → Out A
-askStep m k = elim (m .steps) [ zero ↦ spent noStep m | suc s ↦ k (record { steps = s; names = m .names; cells = m .cells }) ]
+askStep m k = takeStep m (spent noStep) k
 
 -- s steps, one after the other: where fewer are left they are all taken
 abbrev pub askSteps : {A : Type 0} → ℕ → Meter → (Meter → Out A) → Out A
@@ -37,12 +39,8 @@ askSteps s m k =
       | false ↦ spent noStep (record { steps = 0; names = m .names; cells = m .cells })
     ]
 
--- all cells at once: a refused request takes none
 abbrev pub askCells : {A : Type 0} → ℕ → Meter → (Meter → Out A) → Out A
-askCells c m k = elim (leb c (m .cells)) [ true ↦ k (record { steps = m .steps; names = m .names; cells = m .cells - c }) | false ↦ spent noCell m ]
-
-abbrev pub withNames : ℕ → Meter → Meter
-withNames d m = record { steps = m .steps; names = d; cells = m .cells }
+askCells c m k = takeCells c m (spent noCell) k
 
 -- as many names may open as before
 abbrev pub close : {A : Type 0} → ℕ → Out A → Out A
@@ -52,7 +50,7 @@ close d (spent w m) = spent w (withNames d m)
 
 -- one more name is open in what follows
 abbrev pub askName : {A : Type 0} → Meter → (Meter → Out A) → Out A
-askName m k = elim (m .names) [ zero ↦ spent noName m | suc d ↦ close (suc d) (k (withNames d m)) ]
+askName m k = takeName m (spent noName) (λ m₁. close (m .names) (k m₁))
 
 abbrev pub lookup : List ℕ → Prog → Option Form
 lookup w [] = none

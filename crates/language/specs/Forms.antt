@@ -1,8 +1,11 @@
 -- Forms and programs.
 use Prim.Native.Nat.{ℕ, zero, suc, _+_}
+use mathlib.Core.Bool.{Bool, true, false}
 use mathlib.Core.List.{List, [], _∷_}
+use mathlib.Core.Option.{Option, some, none}
 use Rattle.language.specs.Bytes.{bytes}
-use Rattle.language.specs.Objects.{Obj, Objs, cellsOf, sameNumber, sameText, sameObject}
+use Rattle.groundwork.specs.Decisions.{sameNumber, sameText}
+use Rattle.language.specs.Objects.{Obj, cellsOf, sameObject}
 use Rattle.language.specs.Words.{Op, Op-discrete}
 
 -- a selector `k` or `kr`, or a word of the table
@@ -49,6 +52,75 @@ abbrev pub count : Forms → ℕ
 count stop = 0
 count (f & fs) = suc (count fs)
 
+-- A form taken apart, if it is a word, a chain, a construction, a constant, a condition.
+abbrev pub asWord : Form → Option Word
+asWord (word w) = some w
+asWord (name w) = none
+asWord (chain fs) = none
+asWord (construct fs) = none
+asWord (constant x) = none
+asWord (insert f) = none
+asWord (applyAll f) = none
+asWord (bu f x) = none
+asWord (condition p f g) = none
+asWord (while p f) = none
+
+abbrev pub asChain : Form → Option Forms
+asChain (word w) = none
+asChain (name w) = none
+asChain (chain fs) = some fs
+asChain (construct fs) = none
+asChain (constant x) = none
+asChain (insert f) = none
+asChain (applyAll f) = none
+asChain (bu f x) = none
+asChain (condition p f g) = none
+asChain (while p f) = none
+
+abbrev pub asConstruct : Form → Option Forms
+asConstruct (word w) = none
+asConstruct (name w) = none
+asConstruct (chain fs) = none
+asConstruct (construct fs) = some fs
+asConstruct (constant x) = none
+asConstruct (insert f) = none
+asConstruct (applyAll f) = none
+asConstruct (bu f x) = none
+asConstruct (condition p f g) = none
+asConstruct (while p f) = none
+
+abbrev pub asConstant : Form → Option Obj
+asConstant (word w) = none
+asConstant (name w) = none
+asConstant (chain fs) = none
+asConstant (construct fs) = none
+asConstant (constant x) = some x
+asConstant (insert f) = none
+asConstant (applyAll f) = none
+asConstant (bu f x) = none
+asConstant (condition p f g) = none
+asConstant (while p f) = none
+
+pub record Conditional : Type 0 where
+  pub test : Form
+  pub then : Form
+  pub else : Form
+
+abbrev pub asCondition : Form → Option Conditional
+asCondition (word w) = none
+asCondition (name w) = none
+asCondition (chain fs) = none
+asCondition (construct fs) = none
+asCondition (constant x) = none
+asCondition (insert f) = none
+asCondition (applyAll f) = none
+asCondition (bu f x) = none
+asCondition (condition p f g) = some (record { test = p; then = f; else = g })
+asCondition (while p f) = none
+
+abbrev pub isChain : Form → Bool
+isChain f = elim (asChain f) [ some fs ↦ true | none ↦ false ]
+
 -- How many forms there are: every part, and one for each chain.
 abbrev mutual
   pub formsIn : Form → ℕ
@@ -94,5 +166,12 @@ programCells [] = 0
 programCells (d ∷ ds) = constantCells (d .body) + programCells ds
 
 -- Whether two forms are the same: equal trees, constants by value and names by spelling.
+abbrev pub sameWord : Discrete Word
+sameWord = Word-discrete sameNumber Op-discrete
+
 abbrev pub sameForm : Discrete Form
-sameForm = Form-discrete (Word-discrete sameNumber Op-discrete) sameText sameObject
+sameForm = Form-discrete sameWord sameText sameObject
+
+abbrev pub isAmong : Word → List Word → Bool
+isAmong w [] = false
+isAmong w (v ∷ vs) = elim (sameWord w v) [ yes e ↦ true | no n ↦ isAmong w vs ]

@@ -8,6 +8,7 @@ use lib.Dec.{leb, ltb, eqb}
 use lib.IntN.{ℤ, pos, negℤ}
 use lib.ListN.{length, take, drop}
 use Rattle.language.specs.Bytes.{bytes, sameBytes}
+use Rattle.language.specs.Numbers.{wordLimit, selectorLimit, one, inRange}
 use Rattle.language.specs.Objects.{Obj, int, symbol}
 use Rattle.language.specs.Words.{Op, Entry, entry, ops}
 use Rattle.language.specs.Forms.{Form, word, name, Word, select, selectRight, op}
@@ -34,7 +35,7 @@ isNameByte b = isLower b || isDigit b
 
 -- A word: at most 12 characters, all lower case or all upper case (digits allowed).
 unfoldable pub judgeWord : (ℕ → Bool) → List ℕ → Judged (List ℕ)
-judgeWord test w = cond (leb (length w) 12) (cond (all test w) (is w) (isNot 6)) (isNot 9)
+judgeWord test w = cond (leb (length w) wordLimit) (cond (all test w) (is w) (isNot 6)) (isNot 9)
 
 -- the number that digits write, with v before them
 unfoldable pub valueFrom : ℕ → List ℕ → ℕ
@@ -50,19 +51,20 @@ leadingZero [] = false
 leadingZero (b ∷ []) = false
 leadingZero (b ∷ c ∷ ds) = eqb b (code "0")
 
--- An integer from -2147483648 to 2147483647 without leading zeros and without -0, by its digits.
+-- a number that is in range
+abbrev pub ranged : ℤ → Judged Obj
+ranged z = cond (inRange one z) (is (int z)) (isNot 8)
+
+-- An integer without leading zeros and without -0, by its digits.
 unfoldable pub judgeInteger : List ℕ → Judged Obj
-judgeInteger ds =
-    cond (all isDigit ds)
-    (cond (leadingZero ds) (isNot 8) (cond (leb (valueOf ds) 2147483647) (is (int (pos (valueOf ds)))) (isNot 8)))
-    (isNot 6)
+judgeInteger ds = cond (all isDigit ds) (cond (leadingZero ds) (isNot 8) (ranged (pos (valueOf ds)))) (isNot 6)
 
 -- the same behind a minus
 unfoldable pub judgeNegative : List ℕ → Judged Obj
 judgeNegative [] = isNot 6
 judgeNegative (b ∷ ds) =
     cond (all isDigit (b ∷ ds))
-    (cond (eqb b (code "0")) (isNot 8) (cond (leb (valueOf (b ∷ ds)) 2147483648) (is (int (negℤ (pos (valueOf (b ∷ ds)))))) (isNot 8)))
+    (cond (eqb b (code "0")) (isNot 8) (ranged (negℤ (pos (valueOf (b ∷ ds))))))
     (isNot 6)
 
 -- where an object may stand
@@ -81,7 +83,7 @@ findOp (o ∷ os) w = elim (sameBytes (entry o .spelled) w) [ true ↦ some o | 
 -- A selector's k is from 1 to 255, without leading zeros.
 abbrev pub isSelector : List ℕ → Bool
 isSelector [] = false
-isSelector (b ∷ ds) = cond (eqb b (code "0")) false (leb (valueOf (b ∷ ds)) 255)
+isSelector (b ∷ ds) = cond (eqb b (code "0")) false (leb (valueOf (b ∷ ds)) selectorLimit)
 
 -- `k`, or `kr` if digits and then `r` are all there is
 unfoldable pub judgeSelector : List ℕ → Judged Form
@@ -114,4 +116,4 @@ judgeName (b ∷ w) =
 -- where none of these may stand: 9 for a word over 12 characters, 6 for all else
 unfoldable pub refusalOf : List ℕ → ℕ
 refusalOf [] = 6
-refusalOf (b ∷ w) = cond (isLetter b) (cond (leb (length (b ∷ w)) 12) 6 9) 6
+refusalOf (b ∷ w) = cond (isLetter b) (cond (leb (length (b ∷ w)) wordLimit) 6 9) 6

@@ -1,43 +1,21 @@
 -- The eleven laws, each at the form where it applies.
 use Prim.Native.Nat.{ℕ, zero, suc}
 use mathlib.Core.Bool.{Bool, true, false, _&&_}
+use mathlib.Core.List.{List, [], _∷_}
 use mathlib.Core.Option.{Option, some, none}
+use Rattle.groundwork.specs.Options.{onSome, when}
 use Rattle.language.specs.Objects.{Obj, truthOf, isT, isF, neither}
 use Rattle.language.specs.Words.{Op}
-use Rattle.language.specs.Forms.{Form, word, name, chain, construct, constant, insert, applyAll, bu, condition, while, Forms, stop, _&_, Word, select, selectRight, op, _+&_, count, sameForm}
+use Rattle.language.specs.Forms.{Form, word, name, chain, construct, constant, insert, applyAll, bu, condition, while, Forms, stop, _&_, Word, select, selectRight, op, _+&_, count, sameForm, isAmong, asWord, asChain, asConstruct, asConstant, asCondition}
 use Rattle.language.specs.Meanings.{fromLeft, fromRight}
 
 -- Harmless: constants, id, atom, null, and constructions of harmless forms.
-abbrev pub harmlessOp : Op → Bool
-harmlessOp Op.id = true
-harmlessOp Op.atom = true
-harmlessOp Op.null = true
-harmlessOp Op.tl = false
-harmlessOp Op.eq = false
-harmlessOp Op.lt = false
-harmlessOp Op.length = false
-harmlessOp Op.add = false
-harmlessOp Op.sub = false
-harmlessOp Op.mul = false
-harmlessOp Op.div = false
-harmlessOp Op.and = false
-harmlessOp Op.or = false
-harmlessOp Op.not = false
-harmlessOp Op.apndl = false
-harmlessOp Op.tlr = false
-harmlessOp Op.reverse = false
-harmlessOp Op.rotl = false
-harmlessOp Op.rotr = false
-harmlessOp Op.apndr = false
-harmlessOp Op.distl = false
-harmlessOp Op.distr = false
-harmlessOp Op.trans = false
+abbrev pub harmlessWords : List Word
+harmlessWords = op Op.id ∷ op Op.atom ∷ op Op.null ∷ []
 
 abbrev mutual
   pub harmless : Form → Bool
-  harmless (word (select k)) = false
-  harmless (word (selectRight k)) = false
-  harmless (word (op o)) = harmlessOp o
+  harmless (word w) = isAmong w harmlessWords
   harmless (name w) = false
   harmless (chain fs) = false
   harmless (construct fs) = allHarmless fs
@@ -54,67 +32,25 @@ abbrev mutual
 
 -- The shapes that a law asks for; none if there is another.
 abbrev pub onChain : {A : Type 0} → Form → (Forms → Option A) → Option A
-onChain (word w) k = none
-onChain (name w) k = none
-onChain (chain fs) k = k fs
-onChain (construct fs) k = none
-onChain (constant x) k = none
-onChain (insert f) k = none
-onChain (applyAll f) k = none
-onChain (bu f x) k = none
-onChain (condition p f g) k = none
-onChain (while p f) k = none
+onChain f k = onSome (asChain f) k
 
 abbrev pub onConstruct : {A : Type 0} → Form → (Forms → Option A) → Option A
-onConstruct (word w) k = none
-onConstruct (name w) k = none
-onConstruct (chain fs) k = none
-onConstruct (construct fs) k = k fs
-onConstruct (constant x) k = none
-onConstruct (insert f) k = none
-onConstruct (applyAll f) k = none
-onConstruct (bu f x) k = none
-onConstruct (condition p f g) k = none
-onConstruct (while p f) k = none
+onConstruct f k = onSome (asConstruct f) k
 
 abbrev pub onConstant : {A : Type 0} → Form → (Obj → Option A) → Option A
-onConstant (word w) k = none
-onConstant (name w) k = none
-onConstant (chain fs) k = none
-onConstant (construct fs) k = none
-onConstant (constant x) k = k x
-onConstant (insert f) k = none
-onConstant (applyAll f) k = none
-onConstant (bu f x) k = none
-onConstant (condition p f g) k = none
-onConstant (while p f) k = none
+onConstant f k = onSome (asConstant f) k
 
 abbrev pub onCondition : {A : Type 0} → Form → (Form → Form → Form → Option A) → Option A
-onCondition (word w) k = none
-onCondition (name w) k = none
-onCondition (chain fs) k = none
-onCondition (construct fs) k = none
-onCondition (constant x) k = none
-onCondition (insert f) k = none
-onCondition (applyAll f) k = none
-onCondition (bu f x) k = none
-onCondition (condition p f g) k = k p f g
-onCondition (while p f) k = none
+onCondition f k = onSome (asCondition f) (λ c. k (c .test) (c .then) (c .else))
 
 -- a selector, as the number of forms before the one it takes of n, if it takes one
+abbrev pub selects : Word → Option (ℕ → Option ℕ)
+selects (select i) = some (fromLeft i)
+selects (selectRight i) = some (fromRight i)
+selects (op o) = none
+
 abbrev pub onSelector : {A : Type 0} → Form → ((ℕ → Option ℕ) → Option A) → Option A
-onSelector (word (select i)) k = k (fromLeft i)
-onSelector (word (selectRight i)) k = k (fromRight i)
-onSelector (word (op o)) k = none
-onSelector (name w) k = none
-onSelector (chain fs) k = none
-onSelector (construct fs) k = none
-onSelector (constant x) k = none
-onSelector (insert f) k = none
-onSelector (applyAll f) k = none
-onSelector (bu f x) k = none
-onSelector (condition p f g) k = none
-onSelector (while p f) k = none
+onSelector f k = onSome (asWord f) (λ w. onSome (selects w) k)
 
 -- exactly two forms; two or more
 abbrev pub onTwo : {A : Type 0} → Forms → (Form → Form → Option A) → Option A
@@ -128,30 +64,13 @@ onTwoOrMore stop k = none
 onTwoOrMore (f & stop) k = none
 onTwoOrMore (f & g & gs) k = k f g gs
 
-abbrev pub onSome : {A B : Type 0} → Option A → (A → Option B) → Option B
-onSome none k = none
-onSome (some a) k = k a
-
-abbrev pub when : {A : Type 0} → Bool → Option A → Option A
-when true a = a
-when false a = none
-
 -- The same h or p means the same form.
 abbrev pub whenSame : {A : Type 0} → Form → Form → Option A → Option A
 whenSame f g a = elim (sameForm f g) [ yes e ↦ a | no n ↦ none ]
 
 -- A chain that a law puts among a chain's parts is joined in, one level.
 abbrev pub put : Form → Forms → Forms
-put (word w) fs = word w & fs
-put (name w) fs = name w & fs
-put (chain gs) fs = gs +& fs
-put (construct gs) fs = construct gs & fs
-put (constant x) fs = constant x & fs
-put (insert f) fs = insert f & fs
-put (applyAll f) fs = applyAll f & fs
-put (bu f x) fs = bu f x & fs
-put (condition p f g) fs = condition p f g & fs
-put (while p f) fs = while p f & fs
+put f fs = elim (asChain f) [ some gs ↦ gs +& fs | none ↦ f & fs ]
 
 -- Laws 1, 2, 5, 6, 7, 8 and 10 take parts at the front of what is left of a chain, and say what comes in its place.
 

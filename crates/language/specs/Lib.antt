@@ -1,4 +1,5 @@
 pub mod Bytes
+pub mod Numbers
 pub mod Objects
 pub mod Words
 pub mod Forms
@@ -7,11 +8,11 @@ pub mod Judging
 pub mod Reading
 pub mod Writing
 pub mod Meanings
+pub mod Charging
 pub mod Evaluation
 pub mod Laws
 pub mod Uses
 pub mod Accepted
 pub mod Answers
 pub mod Fprun
-pub mod Charging
 pub mod Packing

@@ -7,13 +7,10 @@ use lib.IntN.{ℤ, pos, negsuc, _+ℤ_, _-ℤ_, _*ℤ_}
 use lib.Signed.{ltZ, quotZ}
 use lib.Dec.{eqb, ltb}
 use Rattle.language.specs.Bytes.{sameBytes}
-use Rattle.language.specs.Objects.{Obj, int, symbol, seq, Objs, nil, _::_, lengthOf, _+++_, truth, truthOf, isT, isF, neither}
+use Rattle.language.specs.Numbers.{Edition, one, inRange}
+use Rattle.language.specs.Objects.{Obj, int, symbol, seq, Objs, nil, _::_, lengthOf, _+++_, nthObj, truth, truthOf, isT, isF, neither}
 use Rattle.language.specs.Words.{Op, Entry, entry, cellsBy}
 use Rattle.language.specs.Forms.{Word, select, selectRight, op}
-
--- Document 01 has one edition: how div rounds and which integers there are.
-pub data Edition : Type 0 where
-  one : Edition
 
 pub data WordAnswer : Type 0 where
   falls : WordAnswer
@@ -28,10 +25,6 @@ abbrev pub plain : Op → Obj → WordAnswer
 plain o x = made o 0 0 x
 
 -- A numeric result out of range is bottom.
-abbrev pub inRange : Edition → ℤ → Bool
-inRange one (pos n) = ltb n (2 ^ 31)
-inRange one (negsuc n) = ltb n (2 ^ 31)
-
 abbrev pub number : Edition → Op → ℤ → WordAnswer
 number e o z = elim (inRange e z) [ true ↦ plain o (int z) | false ↦ falls ]
 
@@ -185,42 +178,39 @@ abbrev pub withRight : Objs → Obj → Objs
 withRight nil b = nil
 withRight (x :: xs) b = pair x b :: withRight xs b
 
--- trans: the rows' first objects and the rows behind them; `done` where all rows are empty, `uneven` where a row is an
--- atom or the rows are unequal
-pub data Cut : Type 0 where
-  uneven done : Cut
-  cut : Objs → Objs → Cut
+-- trans: whether an object is a row of m objects; whether all are
+abbrev pub isRow : ℕ → Obj → Bool
+isRow m (int a) = false
+isRow m (symbol a) = false
+isRow m (seq xs) = eqb (lengthOf xs) m
 
-abbrev pub addRow : Obj → Cut → Cut
-addRow (int a) c = uneven
-addRow (symbol a) c = uneven
-addRow (seq nil) uneven = uneven
-addRow (seq nil) done = done
-addRow (seq nil) (cut hs ts) = uneven
-addRow (seq (x :: xs)) uneven = uneven
-addRow (seq (x :: xs)) done = uneven
-addRow (seq (x :: xs)) (cut hs ts) = cut (x :: hs) (seq xs :: ts)
+unfoldable pub areRows : ℕ → Objs → Bool
+areRows m nil = true
+areRows m (r :: rs) = isRow m r && areRows m rs
 
-abbrev pub onlyRow : Obj → Cut
-onlyRow (int a) = uneven
-onlyRow (symbol a) = uneven
-onlyRow (seq nil) = done
-onlyRow (seq (x :: xs)) = cut (x :: nil) (seq xs :: nil)
+-- the object in place j of a row, and of each row
+abbrev pub entryAt : ℕ → Obj → Obj
+entryAt j (int a) = seq nil
+entryAt j (symbol a) = seq nil
+entryAt j (seq xs) = nthObj xs j
 
-abbrev pub cutRows : Obj → Objs → Cut
-cutRows r nil = onlyRow r
-cutRows r (q :: qs) = addRow r (cutRows q qs)
+unfoldable pub columnAt : ℕ → Objs → Objs
+columnAt j nil = nil
+columnAt j (r :: rs) = entryAt j r :: columnAt j rs
 
--- the columns of the rows `r :: rs`; the first number is one more than the first row's length
-abbrev pub columns : ℕ → Obj → Objs → (Objs → WordAnswer) → WordAnswer
-columns zero r rs k = falls
-columns (suc j) r rs k =
-    elim (cutRows r rs) [ uneven ↦ falls | done ↦ k nil | cut hs ts ↦ elim ts [ nil ↦ falls | q :: qs ↦ columns j q qs (λ cs. k (seq hs :: cs)) ] ]
+-- m columns, from column j on
+unfoldable pub columnsAt : ℕ → ℕ → Objs → Objs
+columnsAt j zero rs = nil
+columnsAt j (suc m) rs = seq (columnAt j rs) :: columnsAt (suc j) m rs
 
 abbrev pub widthOf : Obj → ℕ
 widthOf (int a) = 0
 widthOf (symbol a) = 0
 widthOf (seq xs) = lengthOf xs
+
+-- rows of m objects become m columns; unequal rows, or an atom among them, are bottom
+abbrev pub transposed : ℕ → Objs → WordAnswer
+transposed m rows = elim (areRows m rows) [ true ↦ made Op.trans (lengthOf rows) m (seq (columnsAt 0 m rows)) | false ↦ falls ]
 
 abbrev pub meaning : Edition → Word → Obj → WordAnswer
 meaning e (select k) x = onSeq x (λ xs. pick (fromLeft k (lengthOf xs)) xs)
@@ -247,4 +237,4 @@ meaning e (op Op.rotr) x = onSeq x (λ xs. made Op.rotr (lengthOf xs) 0 (seq (to
 meaning e (op Op.apndr) x = onPair x (λ a b. onSeq a (λ xs. made Op.apndr (lengthOf xs) 0 (seq (xs +++ (b :: nil)))))
 meaning e (op Op.distl) x = onPair x (λ a b. onSeq b (λ ys. made Op.distl (lengthOf ys) 0 (seq (withLeft a ys))))
 meaning e (op Op.distr) x = onPair x (λ a b. onSeq a (λ xs. made Op.distr (lengthOf xs) 0 (seq (withRight xs b))))
-meaning e (op Op.trans) x = onFull x (λ r rs. columns (suc (widthOf r)) r rs (λ cs. made Op.trans (suc (lengthOf rs)) (lengthOf cs) (seq cs)))
+meaning e (op Op.trans) x = onFull x (λ r rs. transposed (widthOf r) (r :: rs))

@@ -7,6 +7,7 @@ use lib.Dec.{leb, ltb, eqb}
 use lib.ListN.{length}
 use lib.Seq.{slice}
 use Rattle.language.specs.Bytes.{sameBytes}
+use Rattle.language.specs.Numbers.{markLimit, formLimit, definitionLimit}
 use Rattle.language.specs.Objects.{Obj, seq, Objs, nil, _::_}
 use Rattle.language.specs.Forms.{Form, chain, construct, constant, insert, applyAll, bu, condition, while, Forms, stop, _&_, Def, Prog, formsOf}
 use Rattle.language.specs.Tokens.{byteAt, placeFrom, sizeAt}
@@ -82,10 +83,6 @@ unfoldable pub atEnd : {A : Type 0} → List ℕ → A → ℕ → Got A
 atEnd s a e =
     let p = placeFrom s e in
     cond (eqb p (length s)) (got a p) (refused s p)
-
--- 32 marks open at once, counting ( [ { < and the prefixes / @ %.
-abbrev pub markLimit : ℕ
-markLimit = 32
 
 -- enough calls for a text: at most four for each byte
 abbrev pub calls : List ℕ → ℕ
@@ -200,7 +197,7 @@ noneTwice earlier (d ∷ ds) good =
 unfoldable pub withinLimits : List Placed → ℕ → Got Prog
 withinLimits ds e =
     let P = programOf ds in
-    cond (ltb 2048 (formsOf P) || ltb 128 (length P)) (no 10 0) (noneTwice [] ds (got P e))
+    cond (ltb formLimit (formsOf P) || ltb definitionLimit (length P)) (no 10 0) (noneTwice [] ds (got P e))
 
 unfoldable pub readProgram : List ℕ → Got Prog
 readProgram s = andThen (readDefinitions (calls s) s 0) (λ ds e. withinLimits ds e)

@@ -6,9 +6,10 @@ use mathlib.Core.Option.{Option, some, none}
 use lib.Dec.{leb, ltb}
 use Rattle.language.specs.Objects.{Obj}
 use Rattle.language.specs.Forms.{Form, word, name, chain, construct, constant, insert, applyAll, bu, condition, while, Forms, stop, _&_, Def, Prog, formsIn, formsOf}
-use Rattle.language.specs.Reading.{markLimit}
+use Rattle.language.specs.Numbers.{markLimit}
 use Rattle.language.specs.Writing.{marksOfProgram}
-use Rattle.language.specs.Laws.{onSome, when, put, New, stays, puts, formOf, Law, law1, law2, law3, law4, law5, law6, law7, law8, law9, law10, law11, atRoot}
+use Rattle.groundwork.specs.Options.{onSome, when}
+use Rattle.language.specs.Laws.{put, New, stays, puts, formOf, Law, law1, law2, law3, law4, law5, law6, law7, law8, law9, law10, law11, atRoot}
 
 -- Places number forms from 0, each before its parts: place 0 is the form itself, the others are its parts'.
 abbrev pub place : {A : Type 0} → ℕ → A → (ℕ → A) → A

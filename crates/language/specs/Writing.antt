@@ -6,9 +6,10 @@ use mathlib.Core.List.{List, [], _∷_, _++_}
 use lib.Dec.{leb, eqb}
 use lib.IntN.{ℤ, pos, negsuc}
 use Rattle.language.specs.Bytes.{bytes}
+use Rattle.language.specs.Numbers.{markLimit}
 use Rattle.language.specs.Objects.{Obj, int, symbol, seq, Objs, nil, _::_}
 use Rattle.language.specs.Words.{Entry, entry}
-use Rattle.language.specs.Forms.{Form, word, name, chain, construct, constant, insert, applyAll, bu, condition, while, Forms, stop, _&_, Word, select, selectRight, op, Def, Prog}
+use Rattle.language.specs.Forms.{Form, word, name, chain, construct, constant, insert, applyAll, bu, condition, while, Forms, stop, _&_, Word, select, selectRight, op, Def, Prog, isChain}
 
 -- at most k + 1 digits
 unfoldable pub digits : ℕ → ℕ → List ℕ
@@ -44,18 +45,6 @@ unfoldable pub writeWord : Word → List ℕ
 writeWord (select k) = decimal k
 writeWord (selectRight k) = decimal k ++ bytes "r"
 writeWord (op o) = entry o .spelled
-
-abbrev pub isChain : Form → Bool
-isChain (word w) = false
-isChain (name w) = false
-isChain (chain fs) = true
-isChain (construct fs) = false
-isChain (constant x) = false
-isChain (insert f) = false
-isChain (applyAll f) = false
-isChain (bu f x) = false
-isChain (condition p f g) = false
-isChain (while p f) = false
 
 -- Brackets stand round a chain only where it is a part of a chain or an operand that must be a part.
 abbrev pub bracketed : Form → List ℕ → List ℕ
@@ -149,4 +138,4 @@ unfoldable pub scan : List ℕ → (opened room : ℕ) → Scan
 scan [] opened room = on opened room
 scan (b ∷ s) opened room =
     let rest = scan s (openBehind b opened) (room - 1) in
-    cond (eqb b (code "<") && leb 32 opened) deep (cond (eqb room 0) short rest)
+    cond (eqb b (code "<") && leb markLimit opened) deep (cond (eqb room 0) short rest)

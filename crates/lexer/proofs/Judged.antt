@@ -7,7 +7,7 @@ use Prim.Native.Nat.{ℕ, zero, suc, min, _+_, _-_, _*_, _≤_, _<_}
 use native.Mathlib.Nat.{le-trans, zero-add, suc-add}
 use native.Mathlib.Numerals.{add-one}
 use native.Mathlib.Omega.{arith}
-use borrow.Author.Tests.{le-leb, lt-leb, eq-eqb, ne-eqb, leb-true, leb-false, not-true, not-false}
+use borrow.Author.Tests.{le-leb, lt-leb, le-ltb, lt-ltb, eq-eqb, ne-eqb, leb-true, leb-false, not-true, not-false}
 use lib.Dec.{leb, eqb}
 use lib.IntN.{pos, negsuc, negℤ}
 use lib.ListN.{length, getD, take, drop, length-drop, length-take}
@@ -18,7 +18,7 @@ use Rattle.language.specs.Words.{Op, ops}
 use Rattle.language.specs.Forms.{Form, word, name, Word, select, selectRight, op}
 use Rattle.language.specs.Tokens.{span, isDigit, isLetter, sizeAt}
 use Rattle.language.specs.Reading.{wordAt}
-use Rattle.language.specs.Judging.{Judged, is, isNot, onJudged, all, judgeWord, valueFrom, valueOf, leadingZero, judgeInteger, judgeNegative, judgeAtom, findOp, isSelector, judgeSelector, wordForm, judgePart, judgeName, refusalOf}
+use Rattle.language.specs.Judging.{Judged, is, isNot, onJudged, all, judgeWord, valueFrom, valueOf, leadingZero, ranged, judgeInteger, judgeNegative, judgeAtom, findOp, isSelector, judgeSelector, wordForm, judgePart, judgeName, refusalOf}
 use Rattle.lexer.specs.declared.Class.{Class}
 use Rattle.lexer.specs.declared.Class.the-variants.{Digit, Symbol, Name}
 use Rattle.lexer.specs.declared.AtomJudged.{AtomJudged}
@@ -88,16 +88,16 @@ module _ (s : List ℕ) (from to : ℕ) (order : from ≤ to) (fits : to ≤ len
 
     pub integer-large : {v : ℕ} → z ≡ false → v ≡ min (valueOf (slice from to s)) 2147483649 → 2147483647 < v → A.Not 8 ≡ atomJudged (judgeInteger (slice from to s))
     unfolding judgeInteger
-    integer-large h v-is l = rw (are-all Digit s from to e order fits spanned digits, sym zero-is ∙ h, lt-leb (valueOf (slice from to s)) 2147483647 (omega arith))
+    integer-large h v-is l = rw (are-all Digit s from to e order fits spanned digits, sym zero-is ∙ h, le-ltb (valueOf (slice from to s)) 2147483648 (omega arith))
 
     pub integer-good : {v : ℕ} → z ≡ false → v ≡ min (valueOf (slice from to s)) 2147483649 → v ≤ 2147483647 → A.Is (record { tag = 0; word = v }) ≡ atomJudged (judgeInteger (slice from to s))
     unfolding judgeInteger
     integer-good {v} h v-is l =
         let same : v ≡ valueOf (slice from to s) = omega arith in
-        rw (are-all Digit s from to e order fits spanned digits, sym zero-is ∙ h, le-leb (valueOf (slice from to s)) 2147483647 (omega arith), same)
+        rw (are-all Digit s from to e order fits spanned digits, sym zero-is ∙ h, lt-ltb (valueOf (slice from to s)) 2147483648 (omega arith), same)
 
 -- numbers behind a minus
-negative-is : (w : List ℕ) (b : ℕ) (ds : List ℕ) → w ≡ b ∷ ds → judgeNegative w ≡ cond (all isDigit w) (cond (eqb b 48) (isNot 8) (cond (leb (valueOf w) 2147483648) (is (int (negℤ (pos (valueOf w))))) (isNot 8))) (isNot 6)
+negative-is : (w : List ℕ) (b : ℕ) (ds : List ℕ) → w ≡ b ∷ ds → judgeNegative w ≡ cond (all isDigit w) (cond (eqb b 48) (isNot 8) (ranged (negℤ (pos (valueOf w))))) (isNot 6)
 unfolding judgeNegative
 negative-is w b ds e = rw e
 
@@ -116,9 +116,13 @@ value-some w b ds e h n =
     le-not-eq : (b : ℕ) → 48 ≤ b → (b ≡ 48 → ⊥) → 48 < b
     le-not-eq b l n = omega arith
 
-negative-val : (v : ℕ) → 1 ≤ v → A.Is (record { tag = 1; word = v - 1 }) ≡ A.Is (atomVal (int (negℤ (pos v))))
-negative-val zero h = absurd (omega arith)
-negative-val (suc n) h = let e : suc n - 1 ≡ n = omega arith in rw e
+negative-val : (v : ℕ) → 1 ≤ v → v ≤ 2147483648 → A.Is (record { tag = 1; word = v - 1 }) ≡ atomJudged (ranged (negℤ (pos v)))
+negative-val zero h l = absurd (omega arith)
+negative-val (suc n) h l = let e : suc n - 1 ≡ n = omega arith in rw (e, lt-ltb n 2147483648 (omega arith))
+
+negative-over : (v : ℕ) → 2147483648 < v → A.Not 8 ≡ atomJudged (ranged (negℤ (pos v)))
+negative-over zero h = absurd (omega arith)
+negative-over (suc n) h = rw (le-ltb n 2147483648 (omega arith))
 
 pub negative-none : (s : List ℕ) (from to : ℕ) → to ≤ length s → from ≡ to → A.Not 6 ≡ atomJudged (judgeNegative (slice from to s))
 unfolding judgeNegative
@@ -143,7 +147,7 @@ module _ (s : List ℕ) (from to : ℕ) (order : from ≤ to) (fits : to ≤ len
       positive = value-some (slice from to s) (getD s from 0) (slice (from + 1) to s) first (are-all Digit s from to e order fits spanned digits) zero-not
 
       pub negative-large : 2147483648 < v → A.Not 8 ≡ atomJudged (judgeNegative (slice from to s))
-      negative-large l = rw (negative-is (slice from to s) (getD s from 0) (slice (from + 1) to s) first, are-all Digit s from to e order fits spanned digits, ne-eqb (getD s from 0) 48 zero-not, lt-leb (valueOf (slice from to s)) 2147483648 (omega arith))
+      negative-large l = rw (negative-is (slice from to s) (getD s from 0) (slice (from + 1) to s) first, are-all Digit s from to e order fits spanned digits, ne-eqb (getD s from 0) 48 zero-not) (negative-over (valueOf (slice from to s)) (omega arith))
 
       pub negative-some : v ≤ 2147483648 → 1 ≤ v
       negative-some l = let p = positive in omega arith
@@ -152,7 +156,7 @@ module _ (s : List ℕ) (from to : ℕ) (order : from ≤ to) (fits : to ≤ len
       negative-good l =
           let p = positive in
           let same : v ≡ valueOf (slice from to s) = omega arith in
-          rw (negative-is (slice from to s) (getD s from 0) (slice (from + 1) to s) first, are-all Digit s from to e order fits spanned digits, ne-eqb (getD s from 0) 48 zero-not, le-leb (valueOf (slice from to s)) 2147483648 (omega arith), same) (negative-val (valueOf (slice from to s)) p)
+          rw (negative-is (slice from to s) (getD s from 0) (slice (from + 1) to s) first, are-all Digit s from to e order fits spanned digits, ne-eqb (getD s from 0) 48 zero-not, same) (negative-val (valueOf (slice from to s)) p (omega arith))
 
 -- a word that is refused, and one that stands
 refused : {B : Type 0} (J : Judged (List ℕ)) (w : List ℕ) (r : ℕ) (k : List ℕ → Judged B) → WordJudged J w r → (r ≡ 0 → ⊥) → onJudged J k ≡ isNot r

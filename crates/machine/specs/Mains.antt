@@ -7,7 +7,7 @@ use Rattle.language.specs.Objects.{Obj}
 use Rattle.language.specs.Forms.{mainForm}
 use Rattle.language.specs.Accepted.{AreDefinitions}
 use Rattle.language.specs.Reading.{Placed, programOf}
-use Rattle.language.specs.Meanings.{one}
+use Rattle.language.specs.Numbers.{one}
 use Rattle.language.specs.Evaluation.{apply}
 use Rattle.language.specs.declared.Meter.{Meter}
 use Rattle.language.specs.declared.Val.{Val}

@@ -11,7 +11,7 @@ use Rattle.language.specs.Objects.{Obj, cellsOf}
 use Rattle.language.specs.Forms.{Prog, programCells, mainForm}
 use Rattle.language.specs.Reading.{Got, got, no, readObject, readProgram}
 use Rattle.language.specs.Writing.{writeObj, Scan, on, short, deep, scan}
-use Rattle.language.specs.Meanings.{one}
+use Rattle.language.specs.Numbers.{one}
 use Rattle.language.specs.Evaluation.{apply, RunEnd, done, fell, ranOut, tooFew, counted, run}
 use Rattle.language.specs.Answers.{Lent, Outcome, bare, at, untouched, zeroed, roomIn, scanned, ended, onRead, runCall}
 use Rattle.language.specs.declared.Meter.{Meter}

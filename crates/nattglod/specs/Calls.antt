@@ -6,7 +6,7 @@ use mathlib.Core.List.{List}
 use lib.Dec.{ltb, eqb}
 use Rattle.language.specs.Objects.{Obj}
 use Rattle.language.specs.Reading.{readObject, readProgram}
-use Rattle.language.specs.Meanings.{one}
+use Rattle.language.specs.Numbers.{one}
 use Rattle.language.specs.Evaluation.{Out, counted, run}
 use Rattle.language.specs.Answers.{Lent, Outcome, onRead, ended, runCall}
 use Rattle.language.specs.declared.Meter.{Meter}

@@ -7,7 +7,7 @@ use lib.Dec.{ltb, eqb}
 use Rattle.language.specs.Objects.{Obj}
 use Rattle.language.specs.Forms.{Prog, mainForm}
 use Rattle.language.specs.Reading.{got, Placed, readProgram, programOf}
-use Rattle.language.specs.Meanings.{one}
+use Rattle.language.specs.Numbers.{one}
 use Rattle.language.specs.Evaluation.{Out, apply}
 use Rattle.language.specs.Answers.{writing}
 use Rattle.language.specs.declared.Meter.{Meter}

@@ -11,7 +11,8 @@ use lib.Seq.{slice, slice-empty}
 use Rattle.language.specs.Objects.{Obj, int, symbol, seq, Objs, nil, _::_, lengthOf, cellsOf, cellsOfAll}
 use Rattle.language.specs.Tokens.{byteAt, placeFrom, sizeAt}
 use Rattle.language.specs.Judging.{Judged, is, isNot, judgeAtom, refusalOf}
-use Rattle.language.specs.Reading.{Got, got, no, andThen, wordAt, asJudged, refused, opens, insideSequence, afterObject, readObj, readObjs, readObject, atEnd, markLimit, calls}
+use Rattle.language.specs.Numbers.{markLimit}
+use Rattle.language.specs.Reading.{Got, got, no, andThen, wordAt, asJudged, refused, opens, insideSequence, afterObject, readObj, readObjs, readObject, atEnd, calls}
 use Rattle.language.specs.Writing.{marksOfObj}
 use Rattle.language.specs.declared.Val.{Val}
 use Rattle.theorems.proofs.Outcomes.{MeetsWord, meetsWord, misspelled, outOfRange, tooLong}

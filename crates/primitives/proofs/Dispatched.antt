@@ -10,7 +10,8 @@ use lib.Signed.{ltZ}
 use Rattle.language.specs.Objects.{Obj, seq, Objs, nil, _::_, lengthOf, _+++_, truth}
 use Rattle.language.specs.Words.{Op, ops}
 use Rattle.language.specs.Forms.{op}
-use Rattle.language.specs.Meanings.{WordAnswer, falls, one, meaning, made, plain, number, divided, compared, look, onSeq, onInt, onTruth, onPair, pair, withLeft, withRight}
+use Rattle.language.specs.Numbers.{one}
+use Rattle.language.specs.Meanings.{WordAnswer, falls, meaning, made, plain, number, divided, compared, look, onSeq, onInt, onTruth, onPair, pair, withLeft, withRight}
 use Rattle.language.specs.Evaluation.{charged}
 use Rattle.language.specs.declared.Meter.{Meter}
 use Rattle.language.specs.declared.Val.{Val}

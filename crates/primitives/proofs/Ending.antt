@@ -7,9 +7,10 @@ use lib.ListN.{length}
 use borrow.Author.Tests.{le-leb, lt-leb}
 use Rattle.language.specs.Objects.{Obj}
 use Rattle.language.specs.Forms.{Word}
-use Rattle.language.specs.Meanings.{WordAnswer, falls, gives, one, meaning, pair}
+use Rattle.language.specs.Numbers.{one}
+use Rattle.language.specs.Meanings.{WordAnswer, falls, gives, meaning, pair}
 use Rattle.language.specs.Evaluation.{value, bottom, spent, noCell, askSteps, askCells, charged}
-use Rattle.language.specs.Charging.{cellsTaken}
+use Rattle.language.specs.Charging.{takeCells, cellsTaken}
 use Rattle.language.specs.declared.Meter.{Meter}
 use Rattle.language.specs.declared.Val.{Val}
 use Rattle.language.proofs.Charging.{meter-same}
@@ -36,10 +37,10 @@ charged-any n y m =
     rw (le-leb 0 (m .steps) (omega arith), askSteps, e)
 
 pub charged-granted : (n : ℕ) (y : Obj) (m : Meter) → n ≤ m .cells → charged (gives 0 n y) m ≡ value y (cellsTaken n m)
-charged-granted n y m h = charged-any n y m ∙ rw (le-leb n (m .cells) h, askCells)
+charged-granted n y m h = charged-any n y m ∙ rw (le-leb n (m .cells) h, takeCells)
 
 pub charged-short : (n : ℕ) (y : Obj) (m : Meter) → m .cells < n → charged (gives 0 n y) m ≡ spent noCell m
-charged-short n y m h = charged-any n y m ∙ rw (lt-leb n (m .cells) h, askCells)
+charged-short n y m h = charged-any n y m ∙ rw (lt-leb n (m .cells) h, takeCells)
 
 pub charged-plain : (y : Obj) (m : Meter) → charged (gives 0 0 y) m ≡ value y m
 charged-plain y m =

@@ -9,8 +9,10 @@ use borrow.Author.Tests.{eq-eqb, ne-eqb, le-leb}
 use Rattle.language.specs.Objects.{Obj, truth, Truth, isT, isF, neither, truthOf}
 use Rattle.language.specs.Words.{Op}
 use Rattle.language.specs.Forms.{op}
-use Rattle.language.specs.Meanings.{WordAnswer, falls, gives, one, meaning, pair, onTruth, Looked, look, compared}
-use Rattle.language.specs.Evaluation.{value, spent, noStep, askSteps, askCells, charged}
+use Rattle.language.specs.Numbers.{one}
+use Rattle.language.specs.Meanings.{WordAnswer, falls, gives, meaning, pair, onTruth, Looked, look, compared}
+use Rattle.language.specs.Charging.{takeCells}
+use Rattle.language.specs.Evaluation.{value, spent, noStep, askSteps, charged}
 use Rattle.language.specs.declared.Meter.{Meter}
 use Rattle.language.specs.declared.Val.{Val}
 use Rattle.cells.specs.Cells.{Rep, Room, free}
@@ -153,7 +155,7 @@ or-second-is {k = k} g g₂ h h₂ z e = truths-end (eqb k 1) on-or g g₂ h h�
 charged-looked : (l : Looked) (m : Meter) (t : Bool) → leb (l .pairs) (m .steps) ≡ t → charged (compared l) m ≡ cond t (value (truth (l .same)) (stepsTaken (l .pairs) m)) (spent noStep (record { steps = 0; names = m .names; cells = m .cells }))
 charged-looked l m true e =
     let z : _≡_ {A = Meter} (record { steps = m .steps - l .pairs; names = m .names; cells = m .cells - 0 }) (stepsTaken (l .pairs) m) = meter-same (record { steps = m .steps - l .pairs; names = m .names; cells = m .cells - 0 }) (stepsTaken (l .pairs) m) refl refl (omega arith) in
-    rw (e, askSteps, le-leb 0 (m .cells) (omega arith), askCells, z)
+    rw (e, askSteps, le-leb 0 (m .cells) (omega arith), takeCells, z)
 charged-looked l m false e = rw (e, askSteps)
 
 gives-stepped : {C : List ℕ} {m : Meter} {u : Val} (p : ℕ) (y : Obj) → Room C m → Rep C (free C m) u y → Gives C m C (value y (stepsTaken p m)) (Done u (stepsTaken p m))

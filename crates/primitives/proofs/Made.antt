@@ -8,7 +8,8 @@ use lib.ListN.{length}
 use Rattle.language.specs.Objects.{Obj, int, symbol, seq, Objs, nil, _::_, lengthOf, _+++_}
 use Rattle.language.specs.Words.{Op, Entry, entry, cellsBy}
 use Rattle.language.specs.Forms.{op}
-use Rattle.language.specs.Meanings.{WordAnswer, gives, one, meaning, made, onSeq, pair, turned, toLeft, toRight, withLeft, withRight}
+use Rattle.language.specs.Numbers.{one}
+use Rattle.language.specs.Meanings.{WordAnswer, gives, meaning, made, onSeq, pair, turned, toLeft, toRight, withLeft, withRight}
 use Rattle.language.specs.Evaluation.{charged}
 use Rattle.language.specs.Charging.{cellsTaken}
 use Rattle.language.specs.declared.Meter.{Meter}

@@ -11,7 +11,8 @@ use borrow.Author.Tests.{lt-ltb, le-ltb, ltb-true, ltb-false}
 use Rattle.language.specs.Objects.{Obj, int, symbol, seq, truth}
 use Rattle.language.specs.Words.{Op, Entry, entry, cellsBy}
 use Rattle.language.specs.Forms.{op}
-use Rattle.language.specs.Meanings.{WordAnswer, falls, gives, one, meaning, pair, onInts, number, divided}
+use Rattle.language.specs.Numbers.{one}
+use Rattle.language.specs.Meanings.{WordAnswer, falls, gives, meaning, pair, onInts, number, divided}
 use Rattle.language.specs.Evaluation.{charged}
 use Rattle.language.specs.declared.Meter.{Meter}
 use Rattle.language.specs.declared.Val.{Val}

@@ -6,14 +6,14 @@ use mathlib.Core.Option.{Option, some, none}
 use native.Mathlib.Omega.{arith}
 use lib.IntN.{pos}
 use borrow.Author.Tests.{lt-ltb, le-ltb}
-use Rattle.language.specs.Objects.{Obj, int, seq, Objs, nil, _::_, lengthOf}
+use Rattle.language.specs.Objects.{Obj, int, seq, Objs, nil, _::_, lengthOf, nthObj}
 use Rattle.language.specs.Words.{Op}
 use Rattle.language.specs.Forms.{select, selectRight, op}
 use Rattle.language.specs.Meanings.{WordAnswer, falls, gives, onSeq, onFull, pick, nth, fromLeft, fromRight}
 use Rattle.language.specs.declared.Meter.{Meter}
 use Rattle.language.specs.declared.Val.{Val}
 use Rattle.cells.specs.Cells.{Rep, rep-pos, rep-neg, rep-symbol, rep-nil, rep-more, free}
-use Rattle.cells.specs.Parts.{Sized, Tailed, Nth, nthObj}
+use Rattle.cells.specs.Parts.{Sized, Tailed, Nth}
 use Rattle.cells.proofs.Lengths.{rep-length}
 use Rattle.arithmetic.specs.Integers.{Holds, holds-pos}
 use Rattle.primitives.specs.Ends.{Leaf}

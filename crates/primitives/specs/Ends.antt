@@ -5,7 +5,8 @@ use mathlib.Core.List.{List}
 use lib.ListN.{length}
 use Rattle.language.specs.Objects.{Obj}
 use Rattle.language.specs.Forms.{Word}
-use Rattle.language.specs.Meanings.{one, meaning}
+use Rattle.language.specs.Numbers.{one}
+use Rattle.language.specs.Meanings.{meaning}
 use Rattle.language.specs.Evaluation.{Out, value, bottom, spent, Spent, charged}
 use Rattle.language.specs.Answers.{spentNumber}
 use Rattle.language.specs.declared.Meter.{Meter}

@@ -6,7 +6,8 @@ use mathlib.Core.List.{List}
 use Rattle.language.specs.Objects.{Obj, Objs, lengthOf, seq}
 use Rattle.language.specs.Words.{Op}
 use Rattle.language.specs.Forms.{Word, op}
-use Rattle.language.specs.Meanings.{one, meaning, pair, onSeq, made, turned, toLeft, toRight}
+use Rattle.language.specs.Numbers.{one}
+use Rattle.language.specs.Meanings.{meaning, pair, onSeq, made, turned, toLeft, toRight}
 use Rattle.language.specs.Evaluation.{charged}
 use Rattle.language.specs.declared.Meter.{Meter}
 use Rattle.language.specs.declared.Val.{Val}

@@ -7,9 +7,9 @@ use mathlib.Core.Bool.{Bool, true, false, cond}
 use mathlib.Core.List.{List, [], _∷_, _++_, append-assoc, append-nil}
 use native.Mathlib.Omega.{arith}
 use Rattle.language.specs.Bytes.{bytes}
-use Rattle.language.specs.Forms.{Form, word, name, chain, construct, constant, insert, applyAll, bu, condition, while, Forms, stop, _&_}
+use Rattle.language.specs.Forms.{Form, word, name, chain, construct, constant, insert, applyAll, bu, condition, while, Forms, stop, _&_, isChain}
 use Rattle.language.specs.Accepted.{IsForm, AreForms}
-use Rattle.language.specs.Writing.{writeObj, writeWord, writeForm, writeParts, writeForms, isChain, bracketed, bracketMarks, marksOf, marksOfParts, marksOfForms}
+use Rattle.language.specs.Writing.{writeObj, writeWord, writeForm, writeParts, writeForms, bracketed, bracketMarks, marksOf, marksOfParts, marksOfForms}
 use Rattle.formtable.specs.Standing.{parts}
 use Rattle.program_writer.specs.Layout.{opening, behindPart, behindChain, behindConstruct, behindCondition, behindWhile, ending, partText, partsText, partMarks, partsMarks, ownMarks}
 use Rattle.program_writer.specs.Walks.{Writable, AllWritable, none-more, one-more}

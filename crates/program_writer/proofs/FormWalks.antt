@@ -6,8 +6,8 @@ use mathlib.Core.List.{List, [], _∷_, _++_, append-assoc, append-nil}
 use native.Mathlib.Omega.{arith}
 use lib.ListN.{length, getD}
 use Rattle.language.specs.Bytes.{bytes}
-use Rattle.language.specs.Forms.{Form, word, Forms, stop, _&_, _+&_, count}
-use Rattle.language.specs.Writing.{writeForm, isChain, bracketed}
+use Rattle.language.specs.Forms.{Form, word, Forms, stop, _&_, _+&_, count, isChain}
+use Rattle.language.specs.Writing.{writeForm, bracketed}
 use Rattle.language.specs.declared.Val.{Val}
 use Rattle.cells.specs.Cells.{valAt}
 use Rattle.formtable.specs.Standing.{kindAt, wordAt, parts, Row, row-op, row-select, row-selectRight, row-name, row-chain, row-construct, row-insert, row-applyAll, row-condition, row-while, row-constant, row-bu, Stands, a-form}

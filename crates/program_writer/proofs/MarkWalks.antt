@@ -8,8 +8,8 @@ use borrow.Author.Tests.{eqb-true, eqb-false}
 use lib.Dec.{eqb}
 use lib.ListN.{getD}
 use Rattle.language.specs.Objects.{Obj, seq, Objs, nil, _::_, lengthOf}
-use Rattle.language.specs.Forms.{Form, word, Forms, stop, _&_, _+&_, count}
-use Rattle.language.specs.Writing.{isChain, bracketMarks, marksOf, marksOfObj, marksOfObjs}
+use Rattle.language.specs.Forms.{Form, word, Forms, stop, _&_, _+&_, count, isChain}
+use Rattle.language.specs.Writing.{bracketMarks, marksOf, marksOfObj, marksOfObjs}
 use Rattle.language.specs.declared.Val.{Val}
 use Rattle.cells.specs.Cells.{Rep, rep-pos, rep-neg, rep-symbol, rep-nil, rep-more, valAt}
 use Rattle.cells.specs.Parts.{Sized, Headed, Tailed}

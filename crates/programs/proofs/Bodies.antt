@@ -12,7 +12,8 @@ use Rattle.language.specs.Accepted.{IsName}
 use Rattle.language.specs.Packing.{packed}
 use Rattle.language.specs.Tokens.{placeFrom, sizeAt}
 use Rattle.language.specs.Judging.{Judged, is, isNot, judgeName}
-use Rattle.language.specs.Reading.{Got, got, no, andThen, wordAt, asJudged, mark, markLimit, calls, Placed, definitionAt, readDefinitions}
+use Rattle.language.specs.Numbers.{markLimit}
+use Rattle.language.specs.Reading.{Got, got, no, andThen, wordAt, asJudged, mark, calls, Placed, definitionAt, readDefinitions}
 use Rattle.theorems.proofs.Outcomes.{meets, Meets, refuses, MeetsWord, meetsWord, misspelled, outOfRange, tooLong, meets-then, meets-mark, got-meets, place-on}
 use Rattle.theorems.proofs.JudgedWords.{IsNameIn, judged-name}
 use Rattle.theorems.proofs.Refusals.{first-within}

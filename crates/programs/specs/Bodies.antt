@@ -4,7 +4,8 @@ use Prim.Native.Char.{code}
 use mathlib.Core.List.{List}
 use Rattle.language.specs.Forms.{Form}
 use Rattle.language.specs.Judging.{judgeName}
-use Rattle.language.specs.Reading.{Got, got, andThen, wordAt, asJudged, mark, markLimit, calls, Placed, readDefinitions}
+use Rattle.language.specs.Numbers.{markLimit}
+use Rattle.language.specs.Reading.{Got, got, andThen, wordAt, asJudged, mark, calls, Placed, readDefinitions}
 use Rattle.forms.specs.Readers.{formAt}
 
 -- behind a name: the `=`, the form and the `;`

@@ -10,7 +10,7 @@ use lib.Seq.{take-append-seam}
 use Rattle.language.specs.Objects.{Obj}
 use Rattle.language.specs.Reading.{Got, got, no, readObject, readProgram}
 use Rattle.language.specs.Writing.{writeObj, Scan, on, short, deep, scan}
-use Rattle.language.specs.Meanings.{one}
+use Rattle.language.specs.Numbers.{one}
 use Rattle.language.specs.Evaluation.{RunEnd, done, fell, ranOut, tooFew, run}
 use Rattle.language.specs.Answers.{Lent, Outcome, untouched, roomIn, scanned, ended, onRead, runCall}
 use Rattle.language.specs.Fprun.{line, numbers, shown}

@@ -9,7 +9,7 @@ use borrow.Author.Tests.{le-leb, lt-leb}
 use lib.ListN.{length, take, drop, length-replicate}
 use lib.Seq.{slice, take-append-seam, length-take-le}
 use Rattle.language.specs.Bytes.{bytes}
-use Rattle.language.specs.Laws.{onSome}
+use Rattle.groundwork.specs.Options.{onSome}
 use Rattle.language.specs.Answers.{runCall}
 use Rattle.language.specs.Fprun.{split, onLines, budgetsIn, lentFor, line, shown, reply, fprun}
 use Rattle.language.specs.declared.Meter.{Meter}

@@ -4,7 +4,7 @@ use mathlib.Core.Path.{_≡_}
 use mathlib.Core.List.{List}
 use mathlib.Core.Option.{some}
 use lib.ListN.{length, take}
-use Rattle.language.specs.Laws.{onSome}
+use Rattle.groundwork.specs.Options.{onSome}
 use Rattle.language.specs.Answers.{runCall}
 use Rattle.language.specs.Fprun.{budgetsIn, lentFor, shown, reply, fprun}
 use Rattle.language.specs.declared.Meter.{Meter}

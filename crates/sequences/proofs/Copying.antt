@@ -8,10 +8,10 @@ use native.Mathlib.Numerals.{add-one}
 use lib.Dec.{ltb}
 use borrow.Author.Tests.{ltb-true, ltb-false}
 use lib.ListN.{length}
-use Rattle.language.specs.Objects.{seq, Objs, lengthOf}
+use Rattle.language.specs.Objects.{seq, Objs, lengthOf, nthObj}
 use Rattle.language.specs.declared.Val.{Val}
 use Rattle.cells.specs.Cells.{Rep, cellPut}
-use Rattle.cells.specs.Parts.{nthObj, dropObjs, Headed, Tailed}
+use Rattle.cells.specs.Parts.{dropObjs, Headed, Tailed}
 use Rattle.cells.proofs.Reps.{same-refl, same-fewer, same-trans, rep-ext, cell-same, length-cell}
 use Rattle.sequences.specs.Making.{Space}
 use Rattle.sequences.specs.Lines.{linkOver, Place, Line, Copies, Copied}

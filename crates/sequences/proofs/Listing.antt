@@ -4,10 +4,9 @@ use mathlib.Core.Path.{_≡_, refl, sym, ap, _∙_}
 use mathlib.Core.List.{List}
 use native.Mathlib.Omega.{arith}
 use lib.ListN.{length}
-use Rattle.language.specs.Objects.{seq, Objs, nil, _::_, lengthOf, _+++_}
+use Rattle.language.specs.Objects.{seq, Objs, nil, _::_, lengthOf, _+++_, nthObj}
 use Rattle.language.specs.declared.Val.{Val}
 use Rattle.cells.specs.Cells.{Rep, Same, sequenceVal}
-use Rattle.cells.specs.Parts.{nthObj}
 use Rattle.cells.proofs.Reps.{same-refl, same-trans, rep-ext}
 use Rattle.sequences.specs.Making.{Space, Stands, Before, takeObjs}
 use Rattle.sequences.specs.Lines.{sequenceFrom, Listed}

@@ -2,9 +2,8 @@
 use Prim.Native.Nat.{ℕ, zero, suc, _+_, _≤_, _<_}
 use mathlib.Core.Path.{_≡_, refl, ap}
 use native.Mathlib.Omega.{arith}
-use Rattle.language.specs.Objects.{Obj, Objs, nil, _::_, lengthOf, _+++_}
+use Rattle.language.specs.Objects.{Obj, Objs, nil, _::_, lengthOf, _+++_, nthObj}
 use Rattle.language.specs.Meanings.{dropLast, lastOf}
-use Rattle.cells.specs.Parts.{nthObj}
 use Rattle.sequences.specs.Making.{takeObjs}
 
 pub append-nil : (xs : Objs) → xs +++ nil ≡ xs

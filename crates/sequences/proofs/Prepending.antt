@@ -4,10 +4,10 @@ use mathlib.Core.Path.{_≡_, refl, sym, ap, _∙_}
 use mathlib.Core.List.{List}
 use native.Mathlib.Omega.{arith}
 use lib.ListN.{length}
-use Rattle.language.specs.Objects.{seq, Objs, _::_, lengthOf, _+++_}
+use Rattle.language.specs.Objects.{seq, Objs, _::_, lengthOf, _+++_, nthObj}
 use Rattle.language.specs.declared.Val.{Val}
 use Rattle.cells.specs.Cells.{Rep, sequenceVal, cellPut}
-use Rattle.cells.specs.Parts.{nthObj, dropObjs, Sized, Headed}
+use Rattle.cells.specs.Parts.{dropObjs, Sized, Headed}
 use Rattle.cells.proofs.Reps.{same-refl, same-trans, rep-ext, cell-same, rep-new}
 use Rattle.sequences.specs.Making.{Space, Stands, takeObjs, Prepended}
 use Rattle.sequences.specs.Lines.{Copied}

@@ -11,7 +11,8 @@ use Rattle.language.specs.declared.Val.{Val}
 use Rattle.cells.specs.Cells.{Rep, rep-nil, Same, sequenceVal}
 use Rattle.cells.specs.Parts.{Headed, Tailed}
 use Rattle.cells.proofs.Reps.{same-refl, same-fewer, same-trans, rep-ext}
-use Rattle.sequences.specs.Making.{Space, isRow, areRows, entryAt, columnAt}
+use Rattle.language.specs.Meanings.{isRow, areRows, entryAt, columnAt}
+use Rattle.sequences.specs.Making.{Space}
 use Rattle.sequences.specs.Lines.{linkOver, Place, Copied, sequenceFrom, Spreads, Spread}
 use Rattle.sequences.proofs.Segments.{place-ext, Begun, begin, begun-next, begun-end}
 use Rattle.sequences.proofs.Transposing.{and-first, and-second, row-is}

@@ -7,12 +7,13 @@ use native.Mathlib.Omega.{arith}
 use lib.Dec.{eqb}
 use lib.ListN.{length}
 use borrow.Author.Tests.{eq-eqb, ne-eqb, eqb-true, eqb-false, not-true, not-false}
-use Rattle.language.specs.Objects.{Obj, int, symbol, seq, Objs, nil, _::_, lengthOf}
+use Rattle.language.specs.Objects.{Obj, int, symbol, seq, Objs, nil, _::_, lengthOf, nthObj}
 use Rattle.language.specs.declared.Val.{Val}
 use Rattle.cells.specs.Cells.{Rep, rep-pos, rep-neg, rep-symbol, rep-nil, rep-more}
-use Rattle.cells.specs.Parts.{nthObj, Sized, Headed, Tailed}
+use Rattle.cells.specs.Parts.{Sized, Headed, Tailed}
 use Rattle.cells.proofs.Reps.{same-trans}
-use Rattle.sequences.specs.Making.{Space, Stands, isRow, areRows, Rows, columnAt, columnsAt, Columns}
+use Rattle.language.specs.Meanings.{isRow, areRows, columnAt, columnsAt}
+use Rattle.sequences.specs.Making.{Space, Stands, Rows, Columns}
 use Rattle.sequences.specs.Lines.{sequenceFrom, Spread, Listed}
 
 pub and-first : (a b : Bool) → (a && b) ≡ true → a ≡ true

@@ -3,11 +3,12 @@ use Prim.Native.Nat.{ℕ, zero, suc, _+_, _*_, _%_, _≤_, _<_}
 use mathlib.Core.Path.{_≡_}
 use mathlib.Core.Bool.{Bool, true}
 use mathlib.Core.List.{List}
-use Rattle.language.specs.Objects.{Obj, seq, Objs, lengthOf}
+use Rattle.language.specs.Objects.{Obj, seq, Objs, lengthOf, nthObj}
 use Rattle.language.specs.declared.Val.{Val}
 use Rattle.cells.specs.Cells.{Rep, Same, valAt, nextAt, sequenceVal}
-use Rattle.cells.specs.Parts.{nthObj, dropObjs}
-use Rattle.sequences.specs.Making.{Space, Stands, side, areRows, columnAt}
+use Rattle.cells.specs.Parts.{dropObjs}
+use Rattle.language.specs.Meanings.{areRows, columnAt}
+use Rattle.sequences.specs.Making.{Space, Stands, side}
 
 -- what leads to the cell d further on than p: its number and one; 0 where d is 0
 unfoldable pub linkOver : ℕ → ℕ → ℕ

@@ -1,15 +1,13 @@
 -- Sequences made in new cells: what the functions that make them answer, said of the objects that the values stand for.
 use Prim.Native.Nat.{ℕ, zero, suc, _+_, _*_, _≤_, _<_}
 use mathlib.Core.Path.{_≡_}
-use mathlib.Core.Bool.{Bool, true, false, _&&_}
+use mathlib.Core.Bool.{Bool, true, false}
 use mathlib.Core.List.{List}
-use lib.Dec.{eqb}
 use lib.ListN.{length}
-use Rattle.language.specs.Objects.{Obj, int, symbol, seq, Objs, nil, _::_, lengthOf, _+++_}
-use Rattle.language.specs.Meanings.{dropLast, pair}
+use Rattle.language.specs.Objects.{Obj, seq, Objs, nil, _::_, lengthOf, _+++_}
+use Rattle.language.specs.Meanings.{dropLast, pair, areRows, columnsAt}
 use Rattle.language.specs.declared.Val.{Val}
 use Rattle.cells.specs.Cells.{Rep, Same}
-use Rattle.cells.specs.Parts.{nthObj}
 
 -- the table C has n cells from p on
 pub record Space (C : List ℕ) (p n : ℕ) : Type 0 where
@@ -61,34 +59,9 @@ pub record Shared (C : List ℕ) (a v : Val) (first : Bool) (n p : ℕ) (r : Val
   pub means : (x : Obj) (ys : Objs) → lengthOf ys ≡ n → Space C p (3 * n) → Rep C p a x → Rep C p v (seq ys) → Stands C p (3 * n) (sides first x ys) r C′
 
 -- ---- rows and columns
--- whether it is a sequence of w objects; whether all are
-abbrev pub isRow : ℕ → Obj → Bool
-isRow w (int z) = false
-isRow w (symbol s) = false
-isRow w (seq xs) = eqb (lengthOf xs) w
-
-unfoldable pub areRows : ℕ → Objs → Bool
-areRows w nil = true
-areRows w (r :: rs) = isRow w r && areRows w rs
-
 -- whether the n places of v are sequences of w places
 pub record Rows (C : List ℕ) (v : Val) (n w : ℕ) (r : Bool) : Type 0 where
   pub means : (k : ℕ) (xs : Objs) → k < 4294967296 → lengthOf xs ≡ n → Rep C k v (seq xs) → r ≡ areRows w xs
-
--- the object in place j of a row
-abbrev pub entryAt : ℕ → Obj → Obj
-entryAt j (int z) = seq nil
-entryAt j (symbol s) = seq nil
-entryAt j (seq xs) = nthObj xs j
-
-unfoldable pub columnAt : ℕ → Objs → Objs
-columnAt j nil = nil
-columnAt j (r :: rs) = entryAt j r :: columnAt j rs
-
--- w columns, from column j on
-unfoldable pub columnsAt : ℕ → ℕ → Objs → Objs
-columnsAt j zero rs = nil
-columnsAt j (suc w) rs = seq (columnAt j rs) :: columnsAt (suc j) w rs
 
 -- the w columns of the n rows of v, in n cells and one for each
 pub record Columns (C : List ℕ) (v : Val) (n w p : ℕ) (r : Val) (C′ : List ℕ) : Type 0 where

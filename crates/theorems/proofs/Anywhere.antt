@@ -9,9 +9,10 @@ use lib.Dec.{ltb, leb}
 use borrow.Author.Tests.{leb-true}
 use Rattle.language.specs.Objects.{Obj}
 use Rattle.language.specs.Forms.{Form, word, name, chain, construct, constant, insert, applyAll, bu, condition, while, Forms, stop, _&_, Def, Prog, formsIn}
-use Rattle.language.specs.Reading.{markLimit}
+use Rattle.language.specs.Numbers.{markLimit}
 use Rattle.language.specs.Writing.{marksOfProgram}
-use Rattle.language.specs.Laws.{onChain, onSome, when, put, leftmost, New, stays, puts, formOf, closed, inChain, whole, Law, atRoot}
+use Rattle.groundwork.specs.Options.{onSome, when}
+use Rattle.language.specs.Laws.{onChain, put, leftmost, New, stays, puts, formOf, closed, inChain, whole, Law, atRoot}
 use Rattle.language.specs.Uses.{place, within, around, aroundAll, among, useAt, useAmong, withBody, useIn, applyLaw}
 use Rattle.theorems.proofs.Inversions.{some-inj, none-some, Made, chain-made, Something, something, when-true}
 

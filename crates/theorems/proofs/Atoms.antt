@@ -20,15 +20,15 @@ unfolding judgeAtom
 digit-atom [] h n = absurd (omega arith)
 digit-atom (b ∷ a) h n = rw (and-eq-true-iff (isDigit b) (all isDigit a) .0 h .0)
 
-positive-judged : (n : ℕ) → n ≤ 2147483647 → judgeInteger (decimal n) ≡ is (int (pos n))
+positive-judged : (n : ℕ) → IsInteger (pos n) → judgeInteger (decimal n) ≡ is (int (pos n))
 unfolding judgeInteger
-positive-judged n h = rw (decimal-digits n, decimal-plain n, decimal-value n, le-leb n 2147483647 h)
+positive-judged n h = rw (decimal-digits n, decimal-plain n, decimal-value n, h)
 
-negative-judged : (n : ℕ) (w : List ℕ) → all isDigit w ≡ true → 0 < length w → (getD w 0 0 ≡ 48 → ⊥) → valueOf w ≡ suc n → n ≤ 2147483647 →
+negative-judged : (n : ℕ) (w : List ℕ) → all isDigit w ≡ true → 0 < length w → (getD w 0 0 ≡ 48 → ⊥) → valueOf w ≡ suc n → IsInteger (negsuc n) →
     judgeNegative w ≡ is (int (negsuc n))
 unfolding judgeNegative
 negative-judged n [] d l z v h = absurd (omega arith)
-negative-judged n (b ∷ a) d l z v h = rw (d, ne-eqb b 48 z, v, le-leb (suc n) 2147483648 (omega arith))
+negative-judged n (b ∷ a) d l z v h = rw (d, ne-eqb b 48 z, v, h)
 
 pub integer-judged : (z : ℤ) → IsInteger z → judgeAtom (writeInteger z) ≡ is (int z)
 unfolding writeInteger judgeAtom

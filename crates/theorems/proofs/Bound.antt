@@ -9,8 +9,10 @@ use lib.Dec.{leb}
 use Rattle.language.specs.declared.Meter.{Meter}
 use Rattle.language.specs.Objects.{Obj, int, symbol, seq, Objs, nil, _::_, Truth, truthOf, isT, isF, neither}
 use Rattle.language.specs.Forms.{Form, word, name, chain, construct, constant, insert, applyAll, bu, condition, while, Forms, stop, _&_, Prog}
-use Rattle.language.specs.Meanings.{Edition, pair}
-use Rattle.language.specs.Evaluation.{noStep, noName, noCell, Out, value, bottom as fallen, spent, bind, askStep, askCells, withNames, close, askName, lookup, Apply, chainBy, constructBy, eachBy, insertBy, whileBy, insertOn, applyAllOn, inside, apply, decide, gathered}
+use Rattle.language.specs.Numbers.{Edition}
+use Rattle.language.specs.Meanings.{pair}
+use Rattle.language.specs.Charging.{takeStep, takeCells, withNames}
+use Rattle.language.specs.Evaluation.{noStep, noName, noCell, Out, value, bottom as fallen, spent, bind, askStep, askCells, close, askName, lookup, Apply, chainBy, constructBy, eachBy, insertBy, whileBy, insertOn, applyAllOn, inside, apply, decide, gathered}
 use Rattle.theorems.proofs.Ends.{Job, just}
 use Rattle.theorems.proofs.Complete.{just-pos}
 use Rattle.theorems.proofs.Sound.{Explains, ex-object, ex-bottom, ex-out, Good, parts-sound, fold-sound}
@@ -144,7 +146,7 @@ module _ (e : Edition) (P : Prog) (u v : Apply) (g : Good e P u) (N : ℕ)
 -- without a step left nothing is applied
 pub dry : (n : ℕ) (e : Edition) (P : Prog) (f : Form) (x : Obj) (m : Meter) → m .steps ≡ 0 → apply n e P f x m ≡ spent noStep m
 dry zero e P f x m h = refl
-dry (suc n) e P f x m h = rw (h, askStep) (ap (λ (k : ℕ). spent noStep (record { steps = k; names = m .names; cells = m .cells })) h)
+dry (suc n) e P f x m h = rw (h, takeStep) (ap (λ (k : ℕ). spent noStep (record { steps = k; names = m .names; cells = m .cells })) h)
 
 pub step-same : (m : Meter) (k k′ : Meter → Out Obj) → ((m₁ : Meter) → suc (m₁ .steps) ≡ m .steps → k m₁ ≡ k′ m₁) → askStep m k ≡ askStep m k′
 step-same m k k′ f = go (m .steps) refl

@@ -11,8 +11,9 @@ use Rattle.language.specs.Objects.{Obj, seq, Objs, _::_}
 use Rattle.language.specs.Forms.{Form, chain, construct, constant, insert, applyAll, bu, condition, while, Forms, _&_}
 use Rattle.language.specs.Tokens.{byteAt, placeFrom}
 use Rattle.language.specs.Judging.{judgeName}
+use Rattle.language.specs.Numbers.{markLimit}
 use Rattle.language.specs.Reading.{Got, got, andThen, mark, opens, insideSequence, afterObject, readObj, readObjs, calls}
-use Rattle.language.specs.Reading.{afterTest, afterPart, afterParts, afterForm, readForm, readParts, readForms, readPart, Placed, definitionAt, readDefinitions, markLimit}
+use Rattle.language.specs.Reading.{afterTest, afterPart, afterParts, afterForm, readForm, readParts, readForms, readPart, Placed, definitionAt, readDefinitions}
 use Rattle.theorems.specs.ReadBack.{CallsNeverDecide}
 use Rattle.theorems.proofs.Outcomes.{Outcome, meets, refusesBy, place-on}
 use Rattle.theorems.proofs.JudgedWords.{judged-name}

@@ -6,7 +6,8 @@ use native.Mathlib.Omega.{arith}
 use Rattle.language.specs.Objects.{Obj, seq, Objs, _::_, lengthOf}
 use Rattle.language.specs.Words.{Op}
 use Rattle.language.specs.Forms.{Word, op, Form, word, chain, construct, constant, bu, Forms, stop, _&_, Prog, _+&_, count}
-use Rattle.language.specs.Meanings.{Edition, WordAnswer, gives, meaning, nth}
+use Rattle.language.specs.Numbers.{Edition}
+use Rattle.language.specs.Meanings.{WordAnswer, gives, meaning, nth}
 use Rattle.language.specs.Laws.{harmless, allHarmless}
 use Rattle.theorems.proofs.Ends.{just, parts, items, Result, object, bottom, Ends, recount, word-object, chain-in, construct-object, construct-bottom, constant-in, bu-in, parts-stop, parts-bottom, parts-go, items-stop, items-bottom, items-late, items-go}
 use Rattle.theorems.proofs.Congruence.{Less, Any, Better, Sub}

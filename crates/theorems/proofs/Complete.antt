@@ -8,8 +8,10 @@ use borrow.Author.Tests.{le-leb}
 use Rattle.language.specs.declared.Meter.{Meter}
 use Rattle.language.specs.Objects.{Obj, int, symbol, seq, Objs, nil, lengthOf}
 use Rattle.language.specs.Forms.{Form, Prog}
-use Rattle.language.specs.Meanings.{Edition, gives, pair}
-use Rattle.language.specs.Evaluation.{Out, value, bottom as fallen, bind, askStep, askSteps, askCells, withNames, close, askName, charged, chainBy, constructBy, eachBy, insertBy, whileBy, decide, inside, apply}
+use Rattle.language.specs.Numbers.{Edition}
+use Rattle.language.specs.Meanings.{gives, pair}
+use Rattle.language.specs.Charging.{takeCells, withNames}
+use Rattle.language.specs.Evaluation.{Out, value, bottom as fallen, bind, askStep, askSteps, askCells, close, askName, charged, chainBy, constructBy, eachBy, insertBy, whileBy, decide, inside, apply}
 use Rattle.language.proofs.Charging.{meter-same}
 use Rattle.theorems.proofs.Ends.{Job, just, parts, items, each, fold, loop, Result, object, bottom, Ends, word-bottom, word-object, name-bottom, name-in, chain-in, construct-object, construct-bottom, constant-in, insert-fold, insert-nil, insert-int, insert-symbol, applyAll-object, applyAll-bottom, applyAll-int, applyAll-symbol, bu-in, condition-bottom, condition-no, condition-T, condition-F, while-in, parts-stop, parts-bottom, parts-go, items-stop, items-bottom, items-late, items-go, each-nil, each-bottom, each-late, each-go, fold-one, fold-bottom, fold-go, loop-bottom, loop-no, loop-F, loop-fell, loop-go}
 
@@ -34,7 +36,7 @@ ask-steps s m m₁ k p =
 pub ask-cells : {A : Type 0} (c : ℕ) (m m₁ : Meter) (k : Meter → Out A) → Paid m 0 c m₁ → askCells c m k ≡ k m₁
 ask-cells c m m₁ k p =
     let h : leb c (m .cells) ≡ true = le-leb c (m .cells) (omega (arith, p .cells)) in
-    rw (h, askCells) (ap k (meter-same _ _ (omega (arith, p .steps)) (p .names) (omega (arith, p .cells))))
+    rw (h, takeCells) (ap k (meter-same _ _ (omega (arith, p .steps)) (p .names) (omega (arith, p .cells))))
 
 abbrev pub mid : ℕ → ℕ → Meter → Meter
 mid s c m′ = record { steps = s + m′ .steps; names = m′ .names; cells = c + m′ .cells }

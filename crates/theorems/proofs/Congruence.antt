@@ -3,7 +3,7 @@ use Prim.Native.Nat.{ℕ, suc, _+_, _≤_, max}
 use native.Mathlib.Omega.{arith}
 use Rattle.language.specs.Objects.{Obj, Objs}
 use Rattle.language.specs.Forms.{Form, chain, construct, insert, applyAll, bu, condition, while, Forms, _&_, Prog}
-use Rattle.language.specs.Meanings.{Edition}
+use Rattle.language.specs.Numbers.{Edition}
 use Rattle.theorems.proofs.Ends.{Job, just, parts, items, each, fold, loop, Result, Ends, chain-in, construct-object, construct-bottom, insert-fold, insert-nil, insert-int, insert-symbol, applyAll-object, applyAll-bottom, applyAll-int, applyAll-symbol, bu-in, condition-bottom, condition-no, condition-T, condition-F, while-in, parts-bottom, parts-go, items-bottom, items-late, items-go, each-nil, each-bottom, each-late, each-go, fold-one, fold-bottom, fold-go, loop-bottom, loop-no, loop-F, loop-fell, loop-go}
 
 -- names, steps and cells before, and after

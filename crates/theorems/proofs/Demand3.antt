@@ -9,7 +9,7 @@ use Rattle.language.specs.declared.Meter.{Meter}
 use Rattle.language.specs.Bytes.{sameBytes}
 use Rattle.language.specs.Objects.{Obj}
 use Rattle.language.specs.Forms.{Form, Prog, programCells}
-use Rattle.language.specs.Meanings.{Edition}
+use Rattle.language.specs.Numbers.{Edition}
 use Rattle.language.specs.Evaluation.{lookup, startingCells, run}
 use Rattle.theorems.specs.Demand3.{Result, reaches, Uses, noUse, useThen, NoMore, Somehow, Demand3}
 use Rattle.theorems.proofs.Congruence.{Less, Less-closed, Any, Any-closed}

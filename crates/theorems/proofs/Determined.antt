@@ -5,7 +5,7 @@ use native.Mathlib.Omega.{arith}
 use Rattle.language.specs.declared.Meter.{Meter}
 use Rattle.language.specs.Objects.{Obj}
 use Rattle.language.specs.Forms.{Form, Prog}
-use Rattle.language.specs.Meanings.{Edition}
+use Rattle.language.specs.Numbers.{Edition}
 use Rattle.language.specs.Evaluation.{apply}
 use Rattle.theorems.proofs.Ends.{just, Result, object, bottom, Ends}
 use Rattle.theorems.proofs.Complete.{out, complete}

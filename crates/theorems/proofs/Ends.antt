@@ -6,7 +6,8 @@ use mathlib.Core.Option.{some, none}
 use lib.IntN.{ℤ}
 use Rattle.language.specs.Objects.{Obj, int, symbol, seq, Objs, nil, _::_, lengthOf, truthOf, isT, isF, neither}
 use Rattle.language.specs.Forms.{Word, Form, word, name, chain, construct, constant, insert, applyAll, bu, condition, while, Forms, stop, _&_, Prog}
-use Rattle.language.specs.Meanings.{Edition, falls, gives, meaning, pair}
+use Rattle.language.specs.Numbers.{Edition}
+use Rattle.language.specs.Meanings.{falls, gives, meaning, pair}
 use Rattle.language.specs.Evaluation.{lookup}
 pub use Rattle.theorems.specs.Demand3.{Result, object, bottom}
 

@@ -8,11 +8,11 @@ use native.Mathlib.Omega.{arith}
 use borrow.Author.Tests.{ne-eqb}
 use lib.ListN.{length, drop, length-append}
 use Rattle.language.specs.Objects.{Obj}
-use Rattle.language.specs.Forms.{Form, word, name, chain, construct, constant, insert, applyAll, bu, condition, while, Forms, stop, _&_}
+use Rattle.language.specs.Forms.{Form, word, name, chain, construct, constant, insert, applyAll, bu, condition, while, Forms, stop, _&_, isChain}
 use Rattle.language.specs.Tokens.{isWordByte}
 use Rattle.language.specs.Judging.{isNameByte, judgePart}
 use Rattle.language.specs.Reading.{Got, got, andThen, asJudged, wordAt, opens, mark, afterTest, afterPart, afterParts, afterForm, readForm, readParts, readForms, readPart, readObj}
-use Rattle.language.specs.Writing.{writeObj, writeWord, isChain, bracketed, writeForm, writeParts, writeForms, marksOfObj, bracketMarks, marksOf, marksOfParts, marksOfForms}
+use Rattle.language.specs.Writing.{writeObj, writeWord, bracketed, writeForm, writeParts, writeForms, marksOfObj, bracketMarks, marksOf, marksOfParts, marksOfForms}
 use Rattle.language.specs.Accepted.{IsObj, IsForm, AreForms, OneOrMore, TwoOrMore}
 use Rattle.theorems.proofs.Texts.{byte-here, place-here, drop-past, drop-one, span-none, judged-here, mark-here}
 use Rattle.theorems.proofs.Readers.{Reader, Reads, EndsWord, EndsForm, ends-word, suc-of, closed, joined}

@@ -4,9 +4,9 @@ use mathlib.Core.Path.{_≡_, refl}
 use mathlib.Core.Bool.{Bool, true, false, _&&_, false≢true}
 use Rattle.language.specs.Objects.{Obj, seq, Objs, nil, _::_}
 use Rattle.language.specs.Words.{Op}
-use Rattle.language.specs.Forms.{Word, op, Form, word, name, chain, construct, constant, insert, applyAll, bu, condition, while, Forms, stop, _&_, Prog}
-use Rattle.language.specs.Meanings.{Edition}
-use Rattle.language.specs.Laws.{harmlessOp, harmless, allHarmless}
+use Rattle.language.specs.Forms.{Word, op, Form, word, name, chain, construct, constant, insert, applyAll, bu, condition, while, Forms, stop, _&_, Prog, isAmong}
+use Rattle.language.specs.Numbers.{Edition}
+use Rattle.language.specs.Laws.{harmlessWords, harmless, allHarmless}
 use Rattle.theorems.proofs.Ends.{just, items, object, bottom, Ends, word-object, construct-object, constant-in, items-stop, items-bottom, items-late, items-go}
 use Rattle.theorems.proofs.Determined.{det}
 use Rattle.theorems.proofs.Implies.{object-bottom}
@@ -31,7 +31,7 @@ module _ (e : Edition) (Q : Prog) where
     pub c : ℕ
     pub ends : Ends e Q d (items fs x) (object (seq vs)) s c
 
-  calm-op : (o : Op) (x : Obj) → harmlessOp o ≡ true → Calm (word (op o)) x
+  calm-op : (o : Op) (x : Obj) → isAmong (op o) harmlessWords ≡ true → Calm (word (op o)) x
   calm-op Op.id x h = record { v = _; d = _; s = _; c = _; ends = word-object refl }
   calm-op Op.atom x h = record { v = _; d = _; s = _; c = _; ends = word-object refl }
   calm-op Op.null x h = record { v = _; d = _; s = _; c = _; ends = word-object refl }

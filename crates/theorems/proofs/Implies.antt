@@ -4,7 +4,8 @@ use mathlib.Core.Path.{_≡_, sym, subst}
 use native.Mathlib.Omega.{arith}
 use Rattle.language.specs.Objects.{Obj, Truth, isT, isF, neither}
 use Rattle.language.specs.Forms.{Word, Form, word, chain, construct, insert, applyAll, bu, condition, while, Forms, _&_, Prog}
-use Rattle.language.specs.Meanings.{Edition, WordAnswer, falls, gives, meaning}
+use Rattle.language.specs.Numbers.{Edition}
+use Rattle.language.specs.Meanings.{WordAnswer, falls, gives, meaning}
 use Rattle.theorems.proofs.Ends.{Job, just, parts, items, Result, object, bottom, Ends, word-bottom, word-object}
 use Rattle.theorems.proofs.Congruence.{Less, Less-closed, Any, Any-closed, Better, Sub, sub-refl, sub-trans, parts-head, parts-tail, chain-sub, items-head, items-tail, construct-sub, insert-sub, applyAll-sub, bu-sub, condition-sub, while-sub}
 

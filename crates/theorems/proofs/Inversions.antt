@@ -6,8 +6,10 @@ use mathlib.Core.Option.{Option, some, none}
 use native.Mathlib.Omega.{arith}
 use Rattle.language.specs.Objects.{Obj, seq, Objs, lengthOf}
 use Rattle.language.specs.Forms.{Form, word, name, chain, construct, constant, insert, applyAll, bu, condition, while, Forms, stop, _&_, Word, select, selectRight, op, _+&_, sameForm}
-use Rattle.language.specs.Meanings.{Edition, meaning, pick}
-use Rattle.language.specs.Laws.{onChain, onConstruct, onConstant, onCondition, onSelector, onTwo, onTwoOrMore, onSome, when, whenSame, onSplit, onEndingIn, endingIn, put}
+use Rattle.language.specs.Numbers.{Edition}
+use Rattle.language.specs.Meanings.{meaning, pick}
+use Rattle.groundwork.specs.Options.{onSome, when}
+use Rattle.language.specs.Laws.{onChain, onConstruct, onConstant, onCondition, onSelector, onTwo, onTwoOrMore, whenSame, onSplit, onEndingIn, endingIn, put}
 
 pub some-inj : {A : Type 0} {a b : A} → some a ≡ some b → a ≡ b
 some-inj h = cc

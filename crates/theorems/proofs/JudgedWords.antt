@@ -8,17 +8,18 @@ use native.Mathlib.Nat.{pow-suc, mul-le-mul-right}
 use native.Mathlib.Omega.{arith}
 use borrow.Author.Tests.{eqb-false, leb-true, leb-false}
 use lib.Dec.{leb, eqb}
-use lib.IntN.{pos, negℤ}
+use lib.IntN.{ℤ, pos, negℤ}
 use lib.ListN.{length, take, drop, length-append, length-take, length-drop}
 use Rattle.language.specs.Bytes.{bytes, sameBytes}
+use Rattle.language.specs.Numbers.{one, inRange}
 use Rattle.language.specs.Objects.{Obj, int, symbol}
 use Rattle.language.specs.Words.{Op, entry, ops}
-use Rattle.language.specs.Forms.{Form, word, name, op}
+use Rattle.language.specs.Forms.{Form, word, name, op, isChain}
 use Rattle.language.specs.Tokens.{isDigit, isLower, isUpper, isLetter, span}
 use Rattle.language.specs.Judging.{Judged, is, isNot, onJudged, all, isSymbolByte, isNameByte, judgeWord, valueFrom, valueOf, leadingZero}
 use Rattle.language.specs.Judging.{judgeInteger, judgeNegative, judgeAtom, findOp, isSelector, judgeSelector, wordForm, judgePart, judgeName}
-use Rattle.language.specs.Writing.{digits, decimal, writeInteger, writeObj, writeWord, writeForm, isChain, marksOfObj, marksOf}
-use Rattle.language.specs.Accepted.{IsObj, IsName, IsForm}
+use Rattle.language.specs.Writing.{digits, decimal, writeInteger, writeObj, writeWord, writeForm, marksOfObj, marksOf}
+use Rattle.language.specs.Accepted.{IsInteger, IsObj, IsName, IsForm}
 use Rattle.language.proofs.Bytes.{same-bytes-is}
 use Rattle.theorems.proofs.Texts.{digit-range, lower-no-digit, upper-no-digit}
 use Rattle.theorems.proofs.Outcomes.{MeetsWord, meetsWord, misspelled, outOfRange, tooLong, word-cond}
@@ -75,19 +76,23 @@ word-then {A} {R} test w k f = go (leb (length w) 12) refl (all test w) refl
     go true e false h = misspelled
     go false e u h = tooLong
 
+integer-atom : (z : ℤ) (n : ℕ) → IsInteger z → length (writeInteger z) ≤ n → IsAtomIn n (int z)
+unfolding writeObj
+integer-atom z n h l = record { isObj = h; marks = omega arith; short = l }
+
 judged-integer : (b : ℕ) (ds : List ℕ) → MeetsWord (IsAtomIn (suc (length ds))) (judgeInteger (b ∷ ds))
 unfolding judgeInteger writeInteger writeObj
 judged-integer b ds =
     let v = valueOf (b ∷ ds) in
     word-cond (all isDigit (b ∷ ds))
     (λ d. word-cond (leadingZero (b ∷ ds)) (λ t. outOfRange)
-    (λ t. word-cond (leb v 2147483647) (λ u. meetsWord (record { isObj = leb-true v 2147483647 u; marks = omega arith; short = decimal-short b ds d })) (λ u. outOfRange)))
+    (λ t. word-cond (inRange one (pos v)) (λ u. meetsWord (integer-atom (pos v) (suc (length ds)) u (decimal-short b ds d))) (λ u. outOfRange)))
     (λ d. misspelled)
 
-negative-atom : (v n : ℕ) → v ≤ 2147483648 → length (decimal v) ≤ n → IsAtomIn (suc n) (int (negℤ (pos v)))
+negative-atom : (v n : ℕ) → IsInteger (negℤ (pos v)) → length (decimal v) ≤ n → IsAtomIn (suc n) (int (negℤ (pos v)))
 unfolding writeInteger writeObj
-negative-atom zero n h l = record { isObj = omega arith; marks = omega arith; short = omega arith }
-negative-atom (suc v) n h l = record { isObj = omega arith; marks = omega arith; short = omega arith }
+negative-atom zero n h l = record { isObj = h; marks = omega arith; short = omega arith }
+negative-atom (suc v) n h l = record { isObj = h; marks = omega arith; short = omega arith }
 
 judged-negative : (ds : List ℕ) → MeetsWord (IsAtomIn (suc (length ds))) (judgeNegative ds)
 unfolding judgeNegative
@@ -96,7 +101,7 @@ judged-negative (b ∷ ds) =
     let v = valueOf (b ∷ ds) in
     word-cond (all isDigit (b ∷ ds))
     (λ d. word-cond (eqb b 48) (λ t. outOfRange)
-    (λ t. word-cond (leb v 2147483648) (λ u. meetsWord (negative-atom v (suc (length ds)) (leb-true v 2147483648 u) (decimal-short b ds d))) (λ u. outOfRange)))
+    (λ t. word-cond (inRange one (negℤ (pos v))) (λ u. meetsWord (negative-atom v (suc (length ds)) u (decimal-short b ds d))) (λ u. outOfRange)))
     (λ d. misspelled)
 
 -- a letter that is upper case or a digit is upper case

@@ -8,7 +8,8 @@ use lib.Dec.{eqb}
 use lib.ListN.{length, length-append}
 use Rattle.language.specs.Objects.{Obj, Objs, nil, _::_}
 use Rattle.language.specs.Tokens.{byteAt, placeFrom, sizeAt}
-use Rattle.language.specs.Reading.{Got, wordAt, insideSequence, afterObject, readObj, readObjs, atEnd, calls, markLimit, readObject}
+use Rattle.language.specs.Numbers.{markLimit}
+use Rattle.language.specs.Reading.{Got, wordAt, insideSequence, afterObject, readObj, readObjs, atEnd, calls, readObject}
 use Rattle.language.specs.Writing.{writeObj, writeObjs, writeMoreObjs, marksOfObj, marksOfObjs}
 use Rattle.language.specs.Accepted.{IsObj, AreObjs}
 use Rattle.theorems.specs.ReadBack.{ReadObject, ObjectsRead}

@@ -9,12 +9,13 @@ use borrow.Author.Tests.{eqb-true, ltb-false}
 use lib.Dec.{eqb, ltb}
 use lib.ListN.{length, length-append}
 use Rattle.language.specs.Objects.{Obj}
-use Rattle.language.specs.Forms.{Form, construct, constant, insert, applyAll, bu, condition, while, Forms, stop, _&_, Prog, formsOf}
+use Rattle.language.specs.Forms.{Form, construct, constant, insert, applyAll, bu, condition, while, Forms, stop, _&_, Prog, formsOf, isChain}
 use Rattle.language.specs.Tokens.{byteAt, placeFrom, sizeAt}
-use Rattle.language.specs.Reading.{Got, got, andThen, wordAt, mark, readObj, calls, markLimit, afterTest, afterPart, afterParts, afterForm}
+use Rattle.language.specs.Numbers.{markLimit}
+use Rattle.language.specs.Reading.{Got, got, andThen, wordAt, mark, readObj, calls, afterTest, afterPart, afterParts, afterForm}
 use Rattle.language.specs.Reading.{readForm, readParts, readForms, readPart, Placed, programOf, definitionAt, readDefinitions, isIn, noneTwice, withinLimits, readProgram}
 use Rattle.language.specs.Writing.{writeForm, writeParts, writeMoreParts, writeForms, writeMoreForms, writeProgram}
-use Rattle.language.specs.Writing.{isChain, bracketed, marksOf, bracketMarks, marksOfParts, marksOfForms, marksOfProgram}
+use Rattle.language.specs.Writing.{bracketed, marksOf, bracketMarks, marksOfParts, marksOfForms, marksOfProgram}
 use Rattle.language.specs.Accepted.{IsForm, AreForms, IsName, OneOrMore, AreDefinitions, Different}
 use Rattle.theorems.specs.ReadBack.{ReadProgram, ProgramsRead}
 use Rattle.theorems.proofs.Outcomes.{Meets, meets, refuses, got-meets, meets-then, meets-cond, meets-refused, meets-mark, meets-opens, meets-judged, place-on, word-long}

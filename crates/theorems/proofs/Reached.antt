@@ -8,7 +8,7 @@ use borrow.Author.Tests.{le-leb, leb-true}
 use Rattle.language.specs.declared.Meter.{Meter}
 use Rattle.language.specs.Objects.{Obj}
 use Rattle.language.specs.Forms.{Prog, mainForm}
-use Rattle.language.specs.Meanings.{Edition}
+use Rattle.language.specs.Numbers.{Edition}
 use Rattle.language.specs.Evaluation.{Out, apply, RunEnd, done, fell, tooFew, counted, startingCells, run}
 use Rattle.theorems.specs.Demand3.{Result, object, bottom, reaches}
 use Rattle.theorems.proofs.Ends.{just, Ends}

@@ -7,7 +7,8 @@ use native.Mathlib.Omega.{arith}
 use Rattle.language.specs.Objects.{Obj, seq, Objs, lengthOf, Truth, truthOf, isT, isF, neither}
 use Rattle.language.specs.Words.{Op}
 use Rattle.language.specs.Forms.{Word, op, Form, word, chain, construct, constant, bu, condition, Forms, stop, _&_, Prog, _+&_, count, formsIn, formsInAll, formsOf, constantCells, constantCellsAll, programCells}
-use Rattle.language.specs.Meanings.{Edition, meaning, pick}
+use Rattle.language.specs.Numbers.{Edition}
+use Rattle.language.specs.Meanings.{meaning, pick}
 use Rattle.language.specs.Laws.{harmless, allHarmless, put, fit1, fit2, fit5, chosen, fit6, fit7, fit8, fit10, endingIn, rewrite3, rewrite4, rewrite9, rewrite11, New, formOf, closed, Law, law1, law2, law3, law4, law5, law6, law7, law8, law9, law10, law11, atRoot}
 use Rattle.language.specs.Uses.{applyLaw}
 use Rattle.theorems.proofs.Inversions.{some-inj, none-some, chain-made, construct-made, constant-made, condition-made, selector-made, two, two-or-more, something, when-true, when-same, split, ends-in, Ending, none-more, one-more, ending, PutIn, one-part, its-parts, put-in}

@@ -12,7 +12,8 @@ use Rattle.language.specs.Objects.{Obj, Objs}
 use Rattle.language.specs.Forms.{Form, construct, constant, insert, applyAll, bu, condition, while, Forms, Prog, formsOf}
 use Rattle.language.specs.Tokens.{isBlank, isDigit, isLetter, isWordByte, byteAt, span, placeFrom, dashSize, size, sizeAt}
 use Rattle.language.specs.Judging.{Judged, isNot, judgeAtom, judgePart, judgeName, refusalOf}
-use Rattle.language.specs.Reading.{Got, got, no, andThen, wordAt, asJudged, refused, mark, opens, insideSequence, afterObject, readObj, readObjs, atEnd, markLimit, calls, readObject}
+use Rattle.language.specs.Numbers.{markLimit}
+use Rattle.language.specs.Reading.{Got, got, no, andThen, wordAt, asJudged, refused, mark, opens, insideSequence, afterObject, readObj, readObjs, atEnd, calls, readObject}
 use Rattle.language.specs.Reading.{afterTest, afterPart, afterParts, afterForm, readForm, readParts, readForms, readPart, Placed, programOf, definitionAt, readDefinitions, isIn, noneTwice, withinLimits, readProgram}
 use Rattle.theorems.specs.ReadBack.{Refusal, ObjectsRefused, ProgramsRefused}
 use Rattle.theorems.proofs.Outcomes.{Outcome, meets, refusesBy, MeetsWord, meetsWord, misspelled, outOfRange, tooLong, no-meets, meets-then, meets-cond, place-on, word-long}

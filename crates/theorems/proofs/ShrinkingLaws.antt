@@ -8,7 +8,8 @@ use Rattle.language.specs.Objects.{Obj, Truth, truthOf, isT, isF, neither}
 use Rattle.language.specs.Words.{Op}
 use Rattle.language.specs.Forms.{Form, word, chain, construct, constant, bu, condition, Forms, stop, _&_, op, _+&_, count, formsIn, formsInAll, constantCells}
 use Rattle.language.specs.Forms.{constantCellsAll}
-use Rattle.language.specs.Laws.{harmless, allHarmless, onConstruct, onConstant, onCondition, onSelector, onTwo, onTwoOrMore, onSome, when, whenSame, put, fit1, fit2, fit5, chosen, fit6, fit7, fit8}
+use Rattle.groundwork.specs.Options.{onSome, when}
+use Rattle.language.specs.Laws.{harmless, allHarmless, onConstruct, onConstant, onCondition, onSelector, onTwo, onTwoOrMore, whenSame, put, fit1, fit2, fit5, chosen, fit6, fit7, fit8}
 use Rattle.language.specs.Laws.{fit10, onSplit, onEndingIn, endingIn, rewrite3, rewrite4, rewrite9, rewrite11, New, formOf, closed, inChain, Law, law1, law2, law3, law4, law5, law6, law7, law8, law9}
 use Rattle.language.specs.Laws.{law10, law11, atRoot}
 use Rattle.language.specs.Accepted.{OneOrMore, IsForm, AreForms}

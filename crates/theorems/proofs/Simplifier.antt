@@ -9,9 +9,10 @@ use native.Mathlib.Omega.{arith}
 use lib.Dec.{ltb, leb}
 use borrow.Author.Tests.{le-ltb, leb-true, leb-false}
 use Rattle.language.specs.Forms.{Form, word, name, chain, construct, constant, insert, applyAll, bu, condition, while, Forms, stop, _&_, Prog, formsIn, formsInAll, formsOf}
-use Rattle.language.specs.Reading.{markLimit}
+use Rattle.language.specs.Numbers.{markLimit}
 use Rattle.language.specs.Writing.{marksOfProgram}
-use Rattle.language.specs.Laws.{onSome, when, New, formOf, Law, law1, law2, law3, law4, law5, law6, law7, law8, law9, law10, law11, atRoot}
+use Rattle.groundwork.specs.Options.{onSome, when}
+use Rattle.language.specs.Laws.{New, formOf, Law, law1, law2, law3, law4, law5, law6, law7, law8, law9, law10, law11, atRoot}
 use Rattle.language.specs.Uses.{place, within, around, aroundAll, among, useAt, useAmong, withBody, useIn, applyLaw, laws, lowest, least, Simplified, simplifyBy, simplify}
 use Rattle.theorems.specs.Demand3.{Uses, noUse, useThen}
 use Rattle.theorems.specs.Simplifier.{NoneAt, NoneOf, First, FirstUses, noneLeft, firstThen, Simplifies, SimplifierUses, NoneAfter}

@@ -4,7 +4,7 @@ use mathlib.Core.Path.{_≡_, refl, subst}
 use mathlib.Core.List.{List}
 use mathlib.Core.Option.{Option, some, none}
 use Rattle.language.specs.Forms.{Form, Prog}
-use Rattle.language.specs.Meanings.{Edition}
+use Rattle.language.specs.Numbers.{Edition}
 use Rattle.language.specs.Evaluation.{lookup}
 use Rattle.theorems.proofs.Ends.{Job, Result, Ends, word-bottom, word-object, name-bottom, name-in, chain-in, construct-object, construct-bottom, constant-in, insert-fold, insert-nil, insert-int, insert-symbol, applyAll-object, applyAll-bottom, applyAll-int, applyAll-symbol, bu-in, condition-bottom, condition-no, condition-T, condition-F, while-in, parts-stop, parts-bottom, parts-go, items-stop, items-bottom, items-late, items-go, each-nil, each-bottom, each-late, each-go, fold-one, fold-bottom, fold-go, loop-bottom, loop-no, loop-F, loop-fell, loop-go}
 use Rattle.theorems.proofs.Congruence.{Rel, Closed, Better, SubF}

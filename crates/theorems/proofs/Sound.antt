@@ -10,8 +10,10 @@ use borrow.Author.Tests.{leb-true}
 use Rattle.language.specs.declared.Meter.{Meter}
 use Rattle.language.specs.Objects.{Obj, int, symbol, seq, Objs, nil, _::_, lengthOf, Truth, truthOf, isT, isF, neither}
 use Rattle.language.specs.Forms.{Word, Form, word, name, chain, construct, constant, insert, applyAll, bu, condition, while, Forms, stop, _&_, Prog}
-use Rattle.language.specs.Meanings.{Edition, WordAnswer, falls, gives, meaning, pair}
-use Rattle.language.specs.Evaluation.{Spent, Out, value, bottom as fallen, spent, bind, askStep, askSteps, askCells, withNames, close, askName, lookup, charged, Apply, chainBy, constructBy, eachBy, insertBy, whileBy, insertOn, applyAllOn, decide, gathered, inside, apply}
+use Rattle.language.specs.Numbers.{Edition}
+use Rattle.language.specs.Meanings.{WordAnswer, falls, gives, meaning, pair}
+use Rattle.language.specs.Charging.{takeCells, withNames}
+use Rattle.language.specs.Evaluation.{Spent, Out, value, bottom as fallen, spent, bind, askStep, askSteps, askCells, close, askName, lookup, charged, Apply, chainBy, constructBy, eachBy, insertBy, whileBy, insertOn, applyAllOn, decide, gathered, inside, apply}
 use Rattle.theorems.proofs.Ends.{Job, just, parts, items, each, fold, loop, Result, object, bottom, Ends, recount, word-bottom, word-object, name-bottom, name-in, chain-in, construct-object, construct-bottom, constant-in, insert-fold, insert-nil, insert-int, insert-symbol, applyAll-object, applyAll-bottom, applyAll-int, applyAll-symbol, bu-in, condition-bottom, condition-no, condition-T, condition-F, while-in, parts-stop, parts-bottom, parts-go, items-stop, items-bottom, items-late, items-go, each-nil, each-bottom, each-late, each-go, fold-one, fold-bottom, fold-go, loop-bottom, loop-no, loop-F, loop-fell, loop-go}
 
 module _ (e : Edition) (P : Prog) where
@@ -83,11 +85,11 @@ module _ (e : Edition) (P : Prog) where
   cells-sound {a} {b} {j} n m k f = go (leb n (m .cells)) refl
     where
       go : (t : Bool) → leb n (m .cells) ≡ t → Explains a b j m (askCells n m k)
-      go false h = rw (h, askCells) ex-out
+      go false h = rw (h, takeCells) ex-out
       go true h =
           let m₁ : Meter = record { steps = m .steps; names = m .names; cells = m .cells - n } in
           let l : n ≤ m .cells = leb-true n (m .cells) h in
-          rw (h, askCells) (shift (record { steps = refl; cells = omega arith; names = refl }) (f m₁ refl))
+          rw (h, takeCells) (shift (record { steps = refl; cells = omega arith; names = refl }) (f m₁ refl))
 
   -- the same spending, for another job
   stop-at : {j j₁ : Job} {r₁ r : Result} {m m₁ : Meter} (E : Spends 0 0 j₁ r₁ m m₁) → Ends e P (E .d) j r (E .s) (E .c) → Spends 0 0 j r m m₁

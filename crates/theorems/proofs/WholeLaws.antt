@@ -4,7 +4,7 @@ use mathlib.Core.Path.{_≡_, sym, subst, _∙_, ap}
 use native.Mathlib.Omega.{arith}
 use Rattle.language.specs.Objects.{Obj, seq, _::_, lengthOf, truthOf, isT, isF}
 use Rattle.language.specs.Forms.{Form, chain, construct, constant, condition, Forms, stop, _&_, Prog}
-use Rattle.language.specs.Meanings.{Edition}
+use Rattle.language.specs.Numbers.{Edition}
 use Rattle.theorems.proofs.Inversions.{Ending, none-more, one-more}
 use Rattle.theorems.proofs.Ends.{just, items, Result, object, bottom, Ends, recount, chain-in, construct-object, construct-bottom, constant-in, condition-bottom, condition-no, condition-T, condition-F, parts-stop, parts-bottom, parts-go, items-stop, items-bottom, items-late, items-go}
 use Rattle.theorems.proofs.Congruence.{Less, Any, Better, Sub}

@@ -9,8 +9,8 @@ use lib.ListN.{length, length-append}
 use native.Mathlib.Omega.{arith}
 use Rattle.language.specs.Bytes.{bytes}
 use Rattle.language.specs.Words.{Op}
-use Rattle.language.specs.Forms.{Form, word, name, chain, construct, constant, insert, applyAll, bu, condition, while, Forms, stop, _&_, Word, select, selectRight, op, _+&_, Prog}
-use Rattle.language.specs.Writing.{digits, decimal, writeWord, writeObj, isChain, bracketed, writeForm, writeParts, writeMoreParts, writeForms, writeMoreForms, writeProgram}
+use Rattle.language.specs.Forms.{Form, word, name, chain, construct, constant, insert, applyAll, bu, condition, while, Forms, stop, _&_, Word, select, selectRight, op, _+&_, Prog, isChain}
+use Rattle.language.specs.Writing.{digits, decimal, writeWord, writeObj, bracketed, writeForm, writeParts, writeMoreParts, writeForms, writeMoreForms, writeProgram}
 use Rattle.language.specs.Laws.{put}
 use Rattle.language.specs.Accepted.{IsName, IsForm}
 

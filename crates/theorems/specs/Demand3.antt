@@ -10,7 +10,7 @@ use Rattle.language.specs.declared.Answer.{Answer}
 use Rattle.language.specs.Objects.{Obj}
 use Rattle.language.specs.Forms.{Prog}
 use Rattle.language.specs.Reading.{got, readObject, readProgram}
-use Rattle.language.specs.Meanings.{Edition, one}
+use Rattle.language.specs.Numbers.{Edition, one}
 use Rattle.language.specs.Evaluation.{RunEnd, done, fell, run}
 use Rattle.language.specs.Laws.{Law}
 use Rattle.language.specs.Uses.{applyLaw}

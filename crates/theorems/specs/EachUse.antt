@@ -5,7 +5,8 @@ use mathlib.Core.List.{List}
 use mathlib.Core.Option.{some}
 use lib.ListN.{length}
 use Rattle.language.specs.Forms.{Prog, formsOf, programCells}
-use Rattle.language.specs.Reading.{got, readProgram, markLimit}
+use Rattle.language.specs.Numbers.{markLimit}
+use Rattle.language.specs.Reading.{got, readProgram}
 use Rattle.language.specs.Writing.{writeProgram, marksOfProgram}
 use Rattle.language.specs.Laws.{Law}
 use Rattle.language.specs.Uses.{applyLaw}

@@ -6,7 +6,8 @@ use mathlib.Core.Option.{some}
 use lib.ListN.{length}
 use Rattle.language.specs.Objects.{Obj}
 use Rattle.language.specs.Forms.{Prog}
-use Rattle.language.specs.Reading.{got, no, readObj, readObject, readDefinitions, readProgram, markLimit, calls}
+use Rattle.language.specs.Numbers.{markLimit}
+use Rattle.language.specs.Reading.{got, no, readObj, readObject, readDefinitions, readProgram, calls}
 use Rattle.language.specs.Writing.{writeObj, writeProgram, marksOfObj}
 use Rattle.language.specs.Uses.{applyLaw}
 use Rattle.language.specs.Laws.{Law}
