@@ -4,3 +4,4 @@ pub mod Demand3
 pub mod EachUse
 pub mod Simplifier
 pub mod Budgets
+pub mod Equality
