@@ -5,3 +5,4 @@ pub mod EachUse
 pub mod Simplifier
 pub mod Budgets
 pub mod Equality
+pub mod AnswerTable
