@@ -4,5 +4,6 @@ pub mod Demand3
 pub mod EachUse
 pub mod Simplifier
 pub mod Budgets
+pub mod Results
 pub mod Equality
 pub mod AnswerTable
