@@ -1,15 +1,15 @@
 -- The scan of an object's text: where it goes on to the end, the text fits and at most 32 marks are open, and the other way round.
-use Prim.Native.Nat.{ℕ, suc, _+_, _-_, _≤_, _<_}
+use Prim.Native.Nat.{ℕ, suc, max, _+_, _-_, _≤_}
 use Prim.Native.Char.{code}
 use mathlib.Core.Path.{_≡_, refl, sym, ap, _∙_}
-use mathlib.Core.Bool.{Bool, true, false, cond, _&&_, and-eq-true-iff}
-use mathlib.Core.List.{List, [], _∷_, _++_, append-nil}
+use mathlib.Core.Bool.{Bool, true, false, cond, not, _&&_, and-eq-true-iff}
+use mathlib.Core.List.{List, [], _∷_, _++_, append-nil, append-assoc}
 use native.Mathlib.Nat.{sub-zero}
 use native.Mathlib.Omega.{arith}
 use lib.Dec.{leb, eqb}
 use lib.IntN.{ℤ, pos, negsuc}
 use lib.ListN.{length, length-append}
-use borrow.Author.Tests.{ne-eqb, lt-leb, le-leb, eqb-true, eqb-false, leb-false}
+use borrow.Author.Tests.{ne-eqb, eqb-false, leb-false, not-true}
 use Rattle.language.specs.Objects.{Obj, int, symbol, seq, Objs, nil, _::_}
 use Rattle.language.specs.Tokens.{isDigit, isUpper}
 use Rattle.language.specs.Judging.{all, isSymbolByte}
@@ -49,3 +49,102 @@ scan-length (b ∷ s) opened room o r h =
     let g = goes b s opened room o r h in
     let i = scan-length s (openBehind b opened) (room - 1) o r (g .rest) in
     omega (arith, g .fits)
+
+-- with any room that the text fits into it goes on to the end as well
+pub scan-fits : (s : List ℕ) (opened room room′ o r : ℕ) → scan s opened room ≡ on o r → length s ≤ room′ → scan s opened room′ ≡ on o (room′ - length s)
+unfolding scan
+scan-fits [] opened room room′ o r h l =
+    let e : opened ≡ o = cc in
+    let f : room′ ≡ room′ - 0 = omega arith in
+    λ i. on (e i) (f i)
+scan-fits (b ∷ s) opened room room′ o r h l =
+    let g = goes b s opened room o r h in
+    let f : room′ - 1 - length s ≡ room′ - suc (length s) = omega arith in
+    rw (g .opens, ne-eqb room′ 0 (omega arith)) (scan-fits s (openBehind b opened) (room - 1) (room′ - 1) o r (g .rest) (omega arith) ∙ ap (λ (k : ℕ). on o k) f)
+
+-- ---- bytes that open and close nothing
+
+abbrev isFlat : ℕ → Bool
+isFlat b = not (eqb b (code "<")) && not (eqb b (code ">"))
+
+flat-is : (b : ℕ) → (b ≡ 60 → ⊥) → (b ≡ 62 → ⊥) → isFlat b ≡ true
+flat-is b h g = rw (ne-eqb b 60 h, ne-eqb b 62 g)
+
+flat-behind : (b d : ℕ) → isFlat b ≡ true → openBehind b d ≡ d
+flat-behind b d h =
+    let x = and-eq-true-iff (not (eqb b 60)) (not (eqb b 62)) .0 h in
+    rw (not-true (eqb b 60) (x .0), not-true (eqb b 62) (x .1))
+
+digit-flat : (b : ℕ) → isDigit b ≡ true → isFlat b ≡ true
+digit-flat b h = let r = digit-range b h .1 in flat-is b (λ e. omega arith) (λ e. omega arith)
+
+symbol-flat : (b : ℕ) → isSymbolByte b ≡ true → isFlat b ≡ true
+symbol-flat b h =
+    or-cases (isUpper b) (isDigit b) (isFlat b) (λ u. let r = upper-range b u .0 in flat-is b (λ e. omega arith) (λ e. omega arith)) (digit-flat b) h
+
+integer-flat : (z : ℤ) → all isFlat (writeInteger z) ≡ true
+unfolding writeInteger
+integer-flat (pos n) = all-weaken isDigit isFlat digit-flat (decimal n) (decimal-digits n)
+integer-flat (negsuc n) = all-weaken isDigit isFlat digit-flat (decimal (suc n)) (decimal-digits (suc n))
+
+word-flat : (w : List ℕ) → IsSymbol w → all isFlat w ≡ true
+word-flat [] h = absurd h
+word-flat (b ∷ a) h = all-weaken isSymbolByte isFlat symbol-flat (b ∷ a) (all-cons isSymbolByte b a (upper-symbol b (h .0)) (h .1))
+
+-- ---- the marks that an object's text opens
+
+-- past n bytes, in which at most m marks more were open
+record Past (n m : ℕ) (s : List ℕ) (opened behind room o r : ℕ) : Type 0 where
+  few : m + opened ≤ 32
+  rest : scan s behind (room - n) ≡ on o r
+
+flat-past : (a s : List ℕ) (opened room o r : ℕ) → all isFlat a ≡ true → opened ≤ 32 → scan (a ++ s) opened room ≡ on o r → Past (length a) 0 s opened opened room o r
+flat-past [] s opened room o r f l h = record { few = omega arith; rest = rw sub-zero h }
+flat-past (b ∷ a) s opened room o r f l h =
+    let x = and-eq-true-iff (isFlat b) (all isFlat a) .0 f in
+    let g = goes b (a ++ s) opened room o r h in
+    let i = flat-past a s opened (room - 1) o r (x .1) l (rw (flat-behind b opened (x .0)) at (g .rest)) in
+    let e : room - 1 - length a ≡ room - suc (length a) = omega arith in
+    record { few = omega arith; rest = rw e at (i .rest) }
+
+-- an object, and what is written behind it
+next-past : (x : Obj) (xs : Objs) (s : List ℕ) (opened room o r : ℕ)
+    → ((t : List ℕ) (a : ℕ) → scan (writeObj x ++ t) opened a ≡ on o r → Past (length (writeObj x)) (marksOfObj x) t opened opened a o r)
+    → ((a : ℕ) → scan (writeMoreObjs xs ++ s) opened a ≡ on o r → Past (length (writeMoreObjs xs)) (marksOfObjs xs) s opened (opened - 1) a o r)
+    → scan ((writeObj x ++ writeMoreObjs xs) ++ s) opened room ≡ on o r
+    → Past (length (writeObj x ++ writeMoreObjs xs)) (max (marksOfObj x) (marksOfObjs xs)) s opened (opened - 1) room o r
+next-past x xs s opened room o r f g h =
+    let p = f (writeMoreObjs xs ++ s) room (ap (λ (t : List ℕ). scan t opened room) (sym (append-assoc (writeObj x) (writeMoreObjs xs) s)) ∙ h) in
+    let q = g (room - length (writeObj x)) (p .rest) in
+    let e : room - length (writeObj x) - length (writeMoreObjs xs) ≡ room - length (writeObj x ++ writeMoreObjs xs) = rw length-append (omega arith) in
+    record { few = omega (arith, p .few, q .few); rest = rw e at (q .rest) }
+
+mutual
+  unfolding writeObj
+
+  obj-past : (x : Obj) → IsObj x → (s : List ℕ) (opened room o r : ℕ) → opened ≤ 32 → scan (writeObj x ++ s) opened room ≡ on o r → Past (length (writeObj x)) (marksOfObj x) s opened opened room o r
+  obj-past (int z) h s opened room o r l g = flat-past (writeInteger z) s opened room o r (integer-flat z) l g
+  obj-past (symbol w) h s opened room o r l g = flat-past w s opened room o r (word-flat w h) l g
+  obj-past (seq xs) h s opened room o r l g =
+      let q = goes 60 (writeObjs xs ++ s) opened room o r g in
+      let k = leb-false 32 opened (q .opens) in
+      let i = objs-past xs h s (opened + 1) (room - 1) o r (omega arith) (omega arith) (q .rest) in
+      let e : room - 1 - length (writeObjs xs) ≡ room - suc (length (writeObjs xs)) = omega arith in
+      let f : opened + 1 - 1 ≡ opened = omega arith in
+      record { few = omega (arith, i .few); rest = rw (e, f) at (i .rest) }
+
+  objs-past : (xs : Objs) → AreObjs xs → (s : List ℕ) (opened room o r : ℕ) → 1 ≤ opened → opened ≤ 32 → scan (writeObjs xs ++ s) opened room ≡ on o r → Past (length (writeObjs xs)) (marksOfObjs xs) s opened (opened - 1) room o r
+  objs-past nil h s opened room o r n l g = record { few = omega arith; rest = goes 62 s opened room o r g .rest }
+  objs-past (x :: xs) h s opened room o r n l g = next-past x xs s opened room o r (λ t a u. obj-past x (h .0) t opened a o r l u) (λ a u. more-past xs (h .1) s opened a o r n l u) g
+
+  more-past : (xs : Objs) → AreObjs xs → (s : List ℕ) (opened room o r : ℕ) → 1 ≤ opened → opened ≤ 32 → scan (writeMoreObjs xs ++ s) opened room ≡ on o r → Past (length (writeMoreObjs xs)) (marksOfObjs xs) s opened (opened - 1) room o r
+  more-past nil h s opened room o r n l g = record { few = omega arith; rest = goes 62 s opened room o r g .rest }
+  more-past (x :: xs) h s opened room o r n l g =
+      let q = goes 44 ((writeObj x ++ writeMoreObjs xs) ++ s) opened room o r g in
+      let i = next-past x xs s opened (room - 1) o r (λ t a u. obj-past x (h .0) t opened a o r l u) (λ a u. more-past xs (h .1) s opened a o r n l u) (q .rest) in
+      let e : room - 1 - length (writeObj x ++ writeMoreObjs xs) ≡ room - suc (length (writeObj x ++ writeMoreObjs xs)) = omega arith in
+      record { few = i .few; rest = rw e at (i .rest) }
+
+-- A text that is written whole has at most 32 marks open at once.
+pub scan-marks : (x : Obj) → IsObj x → (room o r : ℕ) → scan (writeObj x) 0 room ≡ on o r → marksOfObj x ≤ 32
+scan-marks x h room o r g = let q = obj-past x h [] 0 room o r (omega arith) (ap (λ (t : List ℕ). scan t 0 room) (append-nil (writeObj x)) ∙ g) in omega (arith, q .few)

@@ -7,3 +7,4 @@ pub mod Budgets
 pub mod Results
 pub mod Equality
 pub mod AnswerTable
+pub mod Written
