@@ -8,3 +8,4 @@ pub mod Results
 pub mod Equality
 pub mod AnswerTable
 pub mod Written
+pub mod CallsLeft
