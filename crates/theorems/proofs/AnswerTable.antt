@@ -1,8 +1,8 @@
 -- Every call answers from document 01's table.
-use Prim.Native.Nat.{ℕ, zero, suc, _+_, _-_, _*_, _≤_, min}
+use Prim.Native.Nat.{ℕ, zero, suc, _*_, _≤_}
 use mathlib.Core.Path.{_≡_, refl, sym, _∙_}
 use mathlib.Core.Bool.{Bool, true, false, cond, _||_, not, false≢true, true≢false}
-use mathlib.Core.List.{List, [], _∷_, _++_}
+use mathlib.Core.List.{List, [], _∷_}
 use mathlib.Core.Option.{Option, some, none}
 use native.Mathlib.Omega.{arith}
 use lib.Dec.{leb, ltb, eqb}
@@ -19,7 +19,7 @@ use Rattle.language.specs.Meanings.{one}
 use Rattle.language.specs.Evaluation.{noStep, noName, noCell, RunEnd, done, fell, ranOut, tooFew, run}
 use Rattle.language.specs.Laws.{Law}
 use Rattle.language.specs.Uses.{applyLaw, lawNumbered, simplify}
-use Rattle.language.specs.Answers.{Lent, Outcome, bare, at, counting, untouched, unwritten, written, roomIn, scanned, spentNumber, ended, onRead, runCall, rewritten, used, usedLaw, withProgram, lawCall, simplifyCall}
+use Rattle.language.specs.Answers.{Lent, Outcome, bare, at, counting, untouched, unwritten, written, roomIn, scanned, ended, onRead, runCall, rewritten, used, usedLaw, withProgram, lawCall, simplifyCall}
 use Rattle.theorems.specs.ReadBack.{Refusal}
 use Rattle.theorems.specs.AnswerTable.{isOneOf, Table, runTable, lawTable, simplifyTable, withPlace, withText, withLength, touchNothing, SixNumbers, Buffers, FromTable, RunFromTable, LawFromTable, SimplifyFromTable}
 use Rattle.theorems.proofs.Outcomes as Outcomes
@@ -173,15 +173,20 @@ ten-at-zero s n p h =
 -- what a call's table says of 6 to 11
 record Reads (t : Table) (k : ℕ) : Type 0 where
   text : isOneOf k (t .texts) ≡ true
-  numbers : (n : ℕ) → Refused n → isOneOf n (t .numbers) ≡ true
+  has6 : isOneOf 6 (t .numbers) ≡ true
+  has7 : isOneOf 7 (t .numbers) ≡ true
+  has8 : isOneOf 8 (t .numbers) ≡ true
+  has9 : isOneOf 9 (t .numbers) ≡ true
+  has10 : isOneOf 10 (t .numbers) ≡ true
+  has11 : isOneOf 11 (t .numbers) ≡ true
 
 from-refusal : (t : Table) (lent : Lent) (n p k : ℕ) → Reads t k → Refused n → TenAtZero n p → FromTable t lent (unwritten lent (at n p k))
-from-refusal t lent n p k r six z = from-refused t lent 6 p k (r .numbers 6 six) (r .text) refl (λ i. no-way i) refl refl
-from-refusal t lent n p k r seven z = from-refused t lent 7 p k (r .numbers 7 seven) (r .text) refl (λ i. no-way i) refl refl
-from-refusal t lent n p k r eight z = from-refused t lent 8 p k (r .numbers 8 eight) (r .text) refl (λ i. no-way i) refl refl
-from-refusal t lent n p k r nine z = from-refused t lent 9 p k (r .numbers 9 nine) (r .text) refl (λ i. no-way i) refl refl
-from-refusal t lent n p k r ten z = from-refused t lent 10 p k (r .numbers 10 ten) (r .text) refl (λ i. z refl) refl refl
-from-refusal t lent n p k r eleven z = from-refused t lent 11 p k (r .numbers 11 eleven) (r .text) refl (λ i. no-way i) refl refl
+from-refusal t lent n p k r six z = from-refused t lent 6 p k (r .has6) (r .text) refl (λ i. no-way i) refl refl
+from-refusal t lent n p k r seven z = from-refused t lent 7 p k (r .has7) (r .text) refl (λ i. no-way i) refl refl
+from-refusal t lent n p k r eight z = from-refused t lent 8 p k (r .has8) (r .text) refl (λ i. no-way i) refl refl
+from-refusal t lent n p k r nine z = from-refused t lent 9 p k (r .has9) (r .text) refl (λ i. no-way i) refl refl
+from-refusal t lent n p k r ten z = from-refused t lent 10 p k (r .has10) (r .text) refl (λ i. z refl) refl refl
+from-refusal t lent n p k r eleven z = from-refused t lent 11 p k (r .has11) (r .text) refl (λ i. no-way i) refl refl
 
 from-program : (t : Table) (lent : Lent) (s : List ℕ) (f : Prog → Outcome) → Reads t 1 → ((P : Prog) → FromTable t lent (f P)) → FromTable t lent (onRead lent 1 (readProgram s) f)
 from-program t lent s f r g = go (readProgram s) refl
@@ -201,16 +206,8 @@ from-object t lent s f r g = go (readObject s) refl
 
 -- ---- a run
 
-run-reads : (k : ℕ) → isOneOf k (1 ∷ 2 ∷ []) ≡ true → Reads runTable k
-run-reads k h = record { text = h; numbers = all }
-  where
-    all : (n : ℕ) → Refused n → isOneOf n (runTable .numbers) ≡ true
-    all n six = refl
-    all n seven = refl
-    all n eight = refl
-    all n nine = refl
-    all n ten = refl
-    all n eleven = refl
+run-reads : (k : ℕ) → isOneOf k (runTable .texts) ≡ true → Reads runTable k
+run-reads k h = record { text = h; has6 = refl; has7 = refl; has8 = refl; has9 = refl; has10 = refl; has11 = refl }
 
 from-scan : (lent : Lent) (s c : ℕ) (x : Obj) (w : Scan) → scan (writeObj x) 0 (roomIn lent) ≡ w → FromTable runTable lent (scanned lent s c x w)
 from-scan lent s c x (on o r) h = let l = scan-length (writeObj x) 0 (roomIn lent) o r h in from-written runTable lent s c (writeObj x) refl refl (λ i. no-way i) (omega arith)
@@ -262,26 +259,10 @@ module _ (t : Table) (R : Rewrites t) (lent : Lent) where
       from-program t lent s f (R .reads) g))
 
 law-rewrites : Rewrites lawTable
-law-rewrites = record { one = refl; five = refl; reads = record { text = refl; numbers = all }; done = refl; doneSteps = refl; long = refl; longSteps = refl }
-  where
-    all : (n : ℕ) → Refused n → isOneOf n (lawTable .numbers) ≡ true
-    all n six = refl
-    all n seven = refl
-    all n eight = refl
-    all n nine = refl
-    all n ten = refl
-    all n eleven = refl
+law-rewrites = record { one = refl; five = refl; reads = record { text = refl; has6 = refl; has7 = refl; has8 = refl; has9 = refl; has10 = refl; has11 = refl }; done = refl; doneSteps = refl; long = refl; longSteps = refl }
 
 simplify-rewrites : Rewrites simplifyTable
-simplify-rewrites = record { one = refl; five = refl; reads = record { text = refl; numbers = all }; done = refl; doneSteps = refl; long = refl; longSteps = refl }
-  where
-    all : (n : ℕ) → Refused n → isOneOf n (simplifyTable .numbers) ≡ true
-    all n six = refl
-    all n seven = refl
-    all n eight = refl
-    all n nine = refl
-    all n ten = refl
-    all n eleven = refl
+simplify-rewrites = record { one = refl; five = refl; reads = record { text = refl; has6 = refl; has7 = refl; has8 = refl; has9 = refl; has10 = refl; has11 = refl }; done = refl; doneSteps = refl; long = refl; longSteps = refl }
 
 from-used : (lent : Lent) (o : Option Prog) → FromTable lawTable lent (used lent o)
 from-used lent none = from-bare lawTable lent 14 refl refl refl refl

@@ -1,12 +1,10 @@
 -- Looking at two objects finds no difference exactly if they are equal.
 use mathlib.Core.Path.{_≡_, refl, sym, ap, ap₂, subst, _∙_}
 use mathlib.Core.Bool.{Bool, true, false, false≢true}
-use native.Mathlib.Omega.{arith}
-use Prim.Native.Nat.{ℕ}
 use lib.IntN.{ℤ, pos, negsuc}
 use borrow.Author.Tests.{eqb-true, eq-eqb}
 use Rattle.language.specs.Objects.{Obj, int, symbol, seq, Objs, nil, _::_, truth}
-use Rattle.language.specs.Meanings.{Looked, sameInt, onward, look, lookAlong, gives, WordAnswer}
+use Rattle.language.specs.Meanings.{Looked, sameInt, onward, look, lookAlong, gives}
 use Rattle.language.proofs.Bytes.{same-bytes-is, same-bytes-refl}
 use Rattle.theorems.specs.Equality.{EqDecides, EqAnswers}
 

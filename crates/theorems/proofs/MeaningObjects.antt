@@ -1,6 +1,6 @@
 -- Every word gives an object of document 01 where it is applied to one.
 use Prim.Native.Nat.{ℕ, zero, suc}
-use mathlib.Core.Path.{_≡_, refl, subst}
+use mathlib.Core.Path.{_≡_, refl}
 use mathlib.Core.Bool.{Bool, true, false, _&&_, _||_, not as opposite}
 use mathlib.Core.Option.{Option, some, none}
 use native.Mathlib.Omega.{arith}
@@ -10,7 +10,7 @@ use borrow.Author.Tests.{ltb-true}
 use Rattle.language.specs.Objects.{Obj, int, symbol, seq, Objs, nil, _::_, lengthOf, _+++_, truth, Truth, truthOf, isT, isF, neither}
 use Rattle.language.specs.Words.{Op}
 use Rattle.language.specs.Forms.{Word, select, selectRight, op}
-use Rattle.language.specs.Meanings.{Edition, one, WordAnswer, falls, gives, made, inRange, number, divided, onSeq, onFull, onPair, onInt, onTruth, nth, pick, fromLeft, fromRight, turnedOnto, dropLast, lastOf, toLeft, toRight, pair, withLeft, withRight, Cut, uneven, done, cut, addRow, onlyRow, cutRows, columns, widthOf, isAtom, isNull, Looked, look, meaning}
+use Rattle.language.specs.Meanings.{Edition, one, WordAnswer, falls, gives, made, inRange, number, divided, onSeq, onFull, onPair, onInt, onTruth, nth, pick, fromLeft, fromRight, turnedOnto, dropLast, lastOf, toLeft, toRight, withLeft, withRight, Cut, uneven, done, cut, addRow, onlyRow, cutRows, columns, widthOf, isAtom, isNull, Looked, look, meaning}
 use Rattle.language.specs.Accepted.{IsInteger, IsObj, AreObjs}
 
 -- what a word gives is such an object

@@ -6,9 +6,9 @@ use mathlib.Core.List.{List, [], _∷_}
 use mathlib.Core.Option.{Option, some, none}
 use native.Mathlib.Omega.{arith}
 use Rattle.language.specs.declared.Meter.{Meter}
-use Rattle.language.specs.Bytes.{bytes, sameBytes}
-use Rattle.language.specs.Objects.{Obj, seq, Objs, nil, _::_}
-use Rattle.language.specs.Forms.{Form, Forms, mainForm, Prog}
+use Rattle.language.specs.Bytes.{sameBytes}
+use Rattle.language.specs.Objects.{Obj}
+use Rattle.language.specs.Forms.{Form, mainForm, Prog}
 use Rattle.language.specs.Meanings.{Edition, WordAnswer}
 use Rattle.language.specs.Evaluation.{lookup, done, run}
 use Rattle.language.specs.Accepted.{IsObj, AreObjs, IsForm, AreForms, AreDefinitions, WellFormed}

@@ -1,21 +1,21 @@
--- The scan of an object's text: where it goes on to the end, the text fits and at most 32 marks are open, and the other way round.
+-- The scan of an object's text: where it goes on to the end, the text fits and at most 32 marks are open at once.
 use Prim.Native.Nat.{ℕ, suc, max, _+_, _-_, _≤_}
 use Prim.Native.Char.{code}
 use mathlib.Core.Path.{_≡_, refl, sym, ap, _∙_}
-use mathlib.Core.Bool.{Bool, true, false, cond, not, _&&_, and-eq-true-iff}
+use mathlib.Core.Bool.{Bool, true, false, cond, _&&_, and-eq-true-iff}
 use mathlib.Core.List.{List, [], _∷_, _++_, append-nil, append-assoc}
 use native.Mathlib.Nat.{sub-zero}
 use native.Mathlib.Omega.{arith}
 use lib.Dec.{leb, eqb}
 use lib.IntN.{ℤ, pos, negsuc}
 use lib.ListN.{length, length-append}
-use borrow.Author.Tests.{ne-eqb, eqb-false, leb-false, not-true}
+use borrow.Author.Tests.{ne-eqb, eq-eqb, eqb-true, eqb-false, leb-false}
 use Rattle.language.specs.Objects.{Obj, int, symbol, seq, Objs, nil, _::_}
 use Rattle.language.specs.Tokens.{isDigit, isUpper}
 use Rattle.language.specs.Judging.{all, isSymbolByte}
-use Rattle.language.specs.Writing.{decimal, writeInteger, writeObj, writeObjs, writeMoreObjs, marksOfObj, marksOfObjs, Scan, on, short, deep, openBehind, scan}
+use Rattle.language.specs.Writing.{decimal, writeInteger, writeObj, writeObjs, writeMoreObjs, marksOfObj, marksOfObjs, on, short, deep, openBehind, scan}
 use Rattle.language.specs.Accepted.{IsSymbol, IsObj, AreObjs}
-use Rattle.theorems.proofs.Texts.{all-cons, all-weaken, digit-range, upper-range, upper-symbol, or-cases}
+use Rattle.theorems.proofs.Texts.{all-cons, digit-range, upper-range, upper-symbol, or-cases}
 use Rattle.theorems.proofs.Decimals.{decimal-digits}
 
 -- ---- one byte
@@ -50,7 +50,7 @@ scan-length (b ∷ s) opened room o r h =
     let i = scan-length s (openBehind b opened) (room - 1) o r (g .rest) in
     omega (arith, g .fits)
 
--- with any room that the text fits into it goes on to the end as well
+-- and with any other room that the text fits into, the scan goes on to the end too
 pub scan-fits : (s : List ℕ) (opened room room′ o r : ℕ) → scan s opened room ≡ on o r → length s ≤ room′ → scan s opened room′ ≡ on o (room′ - length s)
 unfolding scan
 scan-fits [] opened room room′ o r h l =
@@ -64,32 +64,19 @@ scan-fits (b ∷ s) opened room room′ o r h l =
 
 -- ---- bytes that open and close nothing
 
-abbrev isFlat : ℕ → Bool
-isFlat b = not (eqb b (code "<")) && not (eqb b (code ">"))
+plain-behind : (b d : ℕ) → (b ≡ 60 → ⊥) → (b ≡ 62 → ⊥) → openBehind b d ≡ d
+plain-behind b d h g = rw (ne-eqb b 60 h, ne-eqb b 62 g)
 
-flat-is : (b : ℕ) → (b ≡ 60 → ⊥) → (b ≡ 62 → ⊥) → isFlat b ≡ true
-flat-is b h g = rw (ne-eqb b 60 h, ne-eqb b 62 g)
+digit-behind : (b d : ℕ) → isDigit b ≡ true → openBehind b d ≡ d
+digit-behind b d h = let r = digit-range b h .1 in plain-behind b d (λ e. omega arith) (λ e. omega arith)
 
-flat-behind : (b d : ℕ) → isFlat b ≡ true → openBehind b d ≡ d
-flat-behind b d h =
-    let x = and-eq-true-iff (not (eqb b 60)) (not (eqb b 62)) .0 h in
-    rw (not-true (eqb b 60) (x .0), not-true (eqb b 62) (x .1))
+upper-behind : (b d : ℕ) → isUpper b ≡ true → openBehind b d ≡ d
+upper-behind b d h = let r = upper-range b h .0 in plain-behind b d (λ e. omega arith) (λ e. omega arith)
 
-digit-flat : (b : ℕ) → isDigit b ≡ true → isFlat b ≡ true
-digit-flat b h = let r = digit-range b h .1 in flat-is b (λ e. omega arith) (λ e. omega arith)
-
-symbol-flat : (b : ℕ) → isSymbolByte b ≡ true → isFlat b ≡ true
-symbol-flat b h =
-    or-cases (isUpper b) (isDigit b) (isFlat b) (λ u. let r = upper-range b u .0 in flat-is b (λ e. omega arith) (λ e. omega arith)) (digit-flat b) h
-
-integer-flat : (z : ℤ) → all isFlat (writeInteger z) ≡ true
-unfolding writeInteger
-integer-flat (pos n) = all-weaken isDigit isFlat digit-flat (decimal n) (decimal-digits n)
-integer-flat (negsuc n) = all-weaken isDigit isFlat digit-flat (decimal (suc n)) (decimal-digits (suc n))
-
-word-flat : (w : List ℕ) → IsSymbol w → all isFlat w ≡ true
-word-flat [] h = absurd h
-word-flat (b ∷ a) h = all-weaken isSymbolByte isFlat symbol-flat (b ∷ a) (all-cons isSymbolByte b a (upper-symbol b (h .0)) (h .1))
+symbol-behind : (b d : ℕ) → isSymbolByte b ≡ true → openBehind b d ≡ d
+symbol-behind b d h =
+    let o = openBehind b d in
+    eqb-true o d (or-cases (isUpper b) (isDigit b) (eqb o d) (λ u. eq-eqb o d (upper-behind b d u)) (λ t. eq-eqb o d (digit-behind b d t)) h)
 
 -- ---- the marks that an object's text opens
 
@@ -98,14 +85,29 @@ record Past (n m : ℕ) (s : List ℕ) (opened behind room o r : ℕ) : Type 0 w
   few : m + opened ≤ 32
   rest : scan s behind (room - n) ≡ on o r
 
-flat-past : (a s : List ℕ) (opened room o r : ℕ) → all isFlat a ≡ true → opened ≤ 32 → scan (a ++ s) opened room ≡ on o r → Past (length a) 0 s opened opened room o r
-flat-past [] s opened room o r f l h = record { few = omega arith; rest = rw sub-zero h }
-flat-past (b ∷ a) s opened room o r f l h =
-    let x = and-eq-true-iff (isFlat b) (all isFlat a) .0 f in
+-- bytes of a class that opens and closes nothing
+class-past : (test : ℕ → Bool) → ((b d : ℕ) → test b ≡ true → openBehind b d ≡ d) → (a s : List ℕ) (opened room o r : ℕ) → all test a ≡ true → opened ≤ 32 → scan (a ++ s) opened room ≡ on o r → Past (length a) 0 s opened opened room o r
+class-past test f [] s opened room o r t l h = record { few = omega arith; rest = rw sub-zero h }
+class-past test f (b ∷ a) s opened room o r t l h =
+    let x = and-eq-true-iff (test b) (all test a) .0 t in
     let g = goes b (a ++ s) opened room o r h in
-    let i = flat-past a s opened (room - 1) o r (x .1) l (rw (flat-behind b opened (x .0)) at (g .rest)) in
+    let i = class-past test f a s opened (room - 1) o r (x .1) l (rw (f b opened (x .0)) at (g .rest)) in
     let e : room - 1 - length a ≡ room - suc (length a) = omega arith in
     record { few = omega arith; rest = rw e at (i .rest) }
+
+integer-past : (z : ℤ) (s : List ℕ) (opened room o r : ℕ) → opened ≤ 32 → scan (writeInteger z ++ s) opened room ≡ on o r → Past (length (writeInteger z)) 0 s opened opened room o r
+unfolding writeInteger
+integer-past (pos n) s opened room o r l h = class-past isDigit digit-behind (decimal n) s opened room o r (decimal-digits n) l h
+integer-past (negsuc n) s opened room o r l h =
+    let w = decimal (suc n) in
+    let g = goes 45 (w ++ s) opened room o r h in
+    let i = class-past isDigit digit-behind w s opened (room - 1) o r (decimal-digits (suc n)) l (g .rest) in
+    let e : room - 1 - length w ≡ room - suc (length w) = omega arith in
+    record { few = omega arith; rest = rw e at (i .rest) }
+
+symbol-past : (w : List ℕ) → IsSymbol w → (s : List ℕ) (opened room o r : ℕ) → opened ≤ 32 → scan (w ++ s) opened room ≡ on o r → Past (length w) 0 s opened opened room o r
+symbol-past [] i s opened room o r l h = absurd i
+symbol-past (b ∷ a) i s opened room o r l h = class-past isSymbolByte symbol-behind (b ∷ a) s opened room o r (all-cons isSymbolByte b a (upper-symbol b (i .0)) (i .1)) l h
 
 -- an object, and what is written behind it
 next-past : (x : Obj) (xs : Objs) (s : List ℕ) (opened room o r : ℕ)
@@ -123,8 +125,8 @@ mutual
   unfolding writeObj
 
   obj-past : (x : Obj) → IsObj x → (s : List ℕ) (opened room o r : ℕ) → opened ≤ 32 → scan (writeObj x ++ s) opened room ≡ on o r → Past (length (writeObj x)) (marksOfObj x) s opened opened room o r
-  obj-past (int z) h s opened room o r l g = flat-past (writeInteger z) s opened room o r (integer-flat z) l g
-  obj-past (symbol w) h s opened room o r l g = flat-past w s opened room o r (word-flat w h) l g
+  obj-past (int z) h s opened room o r l g = integer-past z s opened room o r l g
+  obj-past (symbol w) h s opened room o r l g = symbol-past w h s opened room o r l g
   obj-past (seq xs) h s opened room o r l g =
       let q = goes 60 (writeObjs xs ++ s) opened room o r g in
       let k = leb-false 32 opened (q .opens) in

@@ -1,11 +1,10 @@
 -- What a run call writes reads as the object that was reached, and `main=id;` writes it again.
-use Prim.Native.Nat.{ℕ, _+_, _-_, _*_, _≤_, min}
+use Prim.Native.Nat.{ℕ, _+_, _-_, _*_, _≤_}
 use mathlib.Core.Path.{_≡_, refl, sym, subst, ap, _∙_}
-use mathlib.Core.Bool.{Bool, true, false, _||_, not}
-use mathlib.Core.List.{List, [], _∷_, _++_}
+use mathlib.Core.Bool.{false}
+use mathlib.Core.List.{List, [], _∷_}
 use native.Mathlib.Omega.{arith}
-use lib.Dec.{ltb, eqb}
-use lib.ListN.{length, take, drop}
+use lib.ListN.{length, drop}
 use lib.Seq.{take-append-seam}
 use borrow.Author.Tests.{le-ltb, eq-eqb}
 use Rattle.language.specs.declared.Meter.{Meter}
@@ -17,12 +16,12 @@ use Rattle.language.specs.Forms.{word, op, Def, Prog, mainForm}
 use Rattle.language.specs.Tokens.{span, placeFrom, size, sizeAt, dashSize}
 use Rattle.language.specs.Judging.{judgeWord, wordForm, judgePart, judgeName}
 use Rattle.language.specs.Reading.{got, readObject, readProgram, mark, afterPart, readForm, definitionAt, readDefinitions, isIn, noneTwice, withinLimits}
-use Rattle.language.specs.Writing.{writeObj, marksOfObj, Scan, on, short, deep, scan}
+use Rattle.language.specs.Writing.{writeObj, Scan, on, short, deep, scan}
 use Rattle.language.specs.Meanings.{one}
 use Rattle.language.specs.Evaluation.{noStep, noName, noCell, RunEnd, done, fell, ranOut, tooFew, startingCells, run}
 use Rattle.language.specs.Accepted.{IsObj, WellFormed}
 use Rattle.language.specs.Answers.{Lent, Outcome, counting, written, roomIn, scanned, ended, runCall}
-use Rattle.theorems.specs.Demand3.{object, reaches, Reached, wrote, Runs}
+use Rattle.theorems.specs.Demand3.{object, Reached, wrote, Runs}
 use Rattle.theorems.specs.ReadBack.{ReadObject, ReadProgram}
 use Rattle.theorems.specs.Written.{textOf, Written, WrittenReadsBack, EnoughFor, WrittenAgain}
 use Rattle.theorems.proofs.ObjectsBack.{objects-read-back}

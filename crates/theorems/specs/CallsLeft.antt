@@ -1,5 +1,5 @@
 -- The readers' bound on calls is never reached: whatever were answered where no call is left, the same would be read.
-use Prim.Native.Nat.{ℕ, zero, suc, _+_, _-_, _≤_}
+use Prim.Native.Nat.{ℕ, zero, suc, _-_, _≤_}
 use Prim.Native.Char.{code}
 use mathlib.Core.Path.{_≡_}
 use mathlib.Core.Bool.{cond}
