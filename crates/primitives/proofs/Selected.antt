@@ -9,7 +9,7 @@ use borrow.Author.Tests.{lt-ltb, le-ltb}
 use Rattle.language.specs.Objects.{Obj, int, seq, Objs, nil, _::_, lengthOf, nthObj}
 use Rattle.language.specs.Words.{Op}
 use Rattle.language.specs.Forms.{select, selectRight, op}
-use Rattle.language.specs.Meanings.{WordAnswer, falls, gives, onSeq, onFull, pick, nth, fromLeft, fromRight}
+use Rattle.language.specs.Meanings.{one, WordAnswer, falls, gives, number, onSeq, onFull, pick, nth, fromLeft, fromRight}
 use Rattle.language.specs.declared.Meter.{Meter}
 use Rattle.language.specs.declared.Val.{Val}
 use Rattle.cells.specs.Cells.{Rep, rep-pos, rep-neg, rep-symbol, rep-nil, rep-more, free}
@@ -165,7 +165,11 @@ tl-is {C} {m = m} h s z t = record {
 
 -- ---- length
 pub length-atom : {v : Val} {m : Meter} → (v .tag ≡ 3 → ⊥) → Plain v m (op Op.length) (Stop 21 m)
-length-atom h = record { means = λ C. leaf-falls (λ x o r. no-seq h r (λ xs. gives 0 0 (int (pos (lengthOf xs))))) }
+length-atom h = record { means = λ C. leaf-falls (λ x o r. no-seq h r (λ xs. number one Op.length (pos (lengthOf xs)))) }
+
+-- a length in range is the number given
+length-given : (k : ℕ) → k < 2147483648 → number one Op.length (pos k) ≡ gives 0 0 (int (pos k))
+length-given k h = rw (lt-ltb k 2147483648 h, number)
 
 count-rep : (C : List ℕ) (n k : ℕ) {v : Val} → Holds v (pos k) → k < 2147483648 → Rep C n v (int (pos k))
 count-rep C n k (holds-pos t w) h = rep-pos t w h
@@ -179,6 +183,7 @@ length-is {v} {r} {m} {n} h s g = record {
         let u = free-under C m o in
         let e : n ≡ lengthOf (q .places) = s .means C (free C m) (q .places) u (q .rep) in
         let f : Holds r (pos (lengthOf (q .places))) = rw e at g in
-        rw (q .is) (end-plain (int (pos (lengthOf (q .places)))) o refl (count-rep C (free C m) (lengthOf (q .places)) f (omega (arith, rep-length (q .places) (q .rep), free-low C m o))));
+        let l : lengthOf (q .places) < 2147483648 = omega (arith, rep-length (q .places) (q .rep), free-low C m o) in
+        rw (q .is) (end-plain (int (pos (lengthOf (q .places)))) o (length-given (lengthOf (q .places)) l) (count-rep C (free C m) (lengthOf (q .places)) f l));
   };
 }

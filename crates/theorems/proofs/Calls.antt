@@ -1,7 +1,7 @@
--- The bound on calls never decides what is read: a bound that falls with the text left is enough, and more reads the same.
+-- The bound on calls is never reached: one that falls with the text left is enough, whatever were answered where no call is left.
 use Prim.Native.Nat.{ℕ, zero, suc, _+_, _-_, _*_, _≤_}
 use Prim.Native.Char.{code}
-use mathlib.Core.Path.{_≡_, refl, ap, _∙_}
+use mathlib.Core.Path.{_≡_, refl, sym, ap, _∙_}
 use mathlib.Core.Bool.{Bool, true, false, cond, _&&_, and-eq-true-iff}
 use mathlib.Core.List.{List, _∷_}
 use native.Mathlib.Omega.{arith}
@@ -15,6 +15,8 @@ use Rattle.language.specs.Numbers.{markLimit}
 use Rattle.language.specs.Reading.{Got, got, andThen, mark, opens, insideSequence, afterObject, readObj, readObjs, calls}
 use Rattle.language.specs.Reading.{afterTest, afterPart, afterParts, afterForm, readForm, readParts, readForms, readPart, Placed, definitionAt, readDefinitions}
 use Rattle.theorems.specs.ReadBack.{CallsNeverDecide}
+use Rattle.theorems.specs.CallsLeft.{Readers, readers, definitionBy, readersFrom, NoCallLeft}
+use Rattle.theorems.proofs.CallsLeft.{same-readers}
 use Rattle.theorems.proofs.Outcomes.{Outcome, meets, refusesBy, place-on}
 use Rattle.theorems.proofs.JudgedWords.{judged-name}
 use Rattle.theorems.proofs.Refusals.{Within, mark-within, word-within, object-within, form-within, part-within, first-within}
@@ -52,31 +54,6 @@ module _ (s : List ℕ) where
       let p = placeFrom s e in
       same-cond (eqb (byteAt s p) (code ","))
       (λ t. ap (λ (u : Got Objs). andThen u (λ xs e. got (x :: xs) e)) (h (mark-within s p (code ",") (omega arith) t))) (λ t. refl)
-
-mutual
-  unfolding readObj
-
-  pub object-calls : (k n : ℕ) (s : List ℕ) (at room : ℕ) → at ≤ length s → 2 * (length s - at) + 1 ≤ k → 2 * (length s - at) + 1 ≤ n → readObj k s at room ≡ readObj n s at room
-  object-calls zero n s at room l lk ln = absurd (omega arith)
-  object-calls (suc k) zero s at room l lk ln = absurd (omega arith)
-  object-calls (suc k) (suc n) s at room l lk ln =
-      let p = placeFrom s at in
-      let o = place-on s at in
-      same-cond (eqb (byteAt s p) (code "<"))
-      (λ t.
-      let i = mark-within s p (code "<") (omega arith) t in
-      same-opens p room (λ a. insideSequence s a (λ a. readObjs k s a (room - 1))) (λ a. insideSequence s a (λ a. readObjs n s a (room - 1)))
-      (same-sequence s (p + 1) (λ a. readObjs k s a (room - 1)) (λ a. readObjs n s a (room - 1)) (objects-calls k n s (p + 1) (room - 1) i (omega arith) (omega arith))))
-      (λ t. refl)
-
-  pub objects-calls : (k n : ℕ) (s : List ℕ) (at room : ℕ) → at ≤ length s → 2 * (length s - at) + 2 ≤ k → 2 * (length s - at) + 2 ≤ n → readObjs k s at room ≡ readObjs n s at room
-  objects-calls zero n s at room l lk ln = absurd (omega arith)
-  objects-calls (suc k) zero s at room l lk ln = absurd (omega arith)
-  objects-calls (suc k) (suc n) s at room l lk ln =
-      same-then (object-within k s at room l) (object-calls k n s at room l (omega arith) (omega arith)) (λ x e q.
-      let o = place-on s e in
-      let b = q .behind in
-      same-after-object s x e (λ a. readObjs k s a room) (λ a. readObjs n s a room) (λ i. objects-calls k n s (placeFrom s e + 1) room i (omega arith) (omega arith)))
 
 -- ---- forms
 
@@ -121,114 +98,168 @@ module _ (s : List ℕ) where
       (λ u. ap (λ (v : Got Form). andThen v (λ g e. mark (code ")") s e (λ a. got (while f g) a))) (h (p + 1) (omega arith) (mark-within s p (code "?") (omega arith) u)))
       (λ u. refl))
 
-mutual
-  unfolding readPart
+-- ---- Reading's readers and those that end with z, each with enough calls
 
-  pub part-calls : (k n : ℕ) (s : List ℕ) (at room : ℕ) → at ≤ length s → 4 * (length s - at) + 1 ≤ k → 4 * (length s - at) + 1 ≤ n → readPart k s at room ≡ readPart n s at room
-  part-calls zero n s at room l lk ln = absurd (omega arith)
-  part-calls (suc k) zero s at room l lk ln = absurd (omega arith)
-  part-calls (suc k) (suc n) s at room l lk ln =
+module _ (z : Readers) where
+  abbrev others : ℕ → List ℕ → Readers
+  others n s = readersFrom z n s
+
+  mutual
+    unfolding readObj
+
+    object-any : (k n : ℕ) (s : List ℕ) (at room : ℕ) → at ≤ length s → 2 * (length s - at) + 1 ≤ k → 2 * (length s - at) + 1 ≤ n → readObj k s at room ≡ others n s .object at room
+    object-any zero n s at room l lk ln = absurd (omega arith)
+    object-any (suc k) zero s at room l lk ln = absurd (omega arith)
+    object-any (suc k) (suc n) s at room l lk ln =
+        let p = placeFrom s at in
+        let o = place-on s at in
+        same-cond (eqb (byteAt s p) (code "<"))
+        (λ t.
+        let i = mark-within s p (code "<") (omega arith) t in
+        same-opens p room (λ a. insideSequence s a (λ a. readObjs k s a (room - 1))) (λ a. insideSequence s a (λ a. others n s .objects a (room - 1)))
+        (same-sequence s (p + 1) (λ a. readObjs k s a (room - 1)) (λ a. others n s .objects a (room - 1)) (objects-any k n s (p + 1) (room - 1) i (omega arith) (omega arith))))
+        (λ t. refl)
+
+    objects-any : (k n : ℕ) (s : List ℕ) (at room : ℕ) → at ≤ length s → 2 * (length s - at) + 2 ≤ k → 2 * (length s - at) + 2 ≤ n → readObjs k s at room ≡ others n s .objects at room
+    objects-any zero n s at room l lk ln = absurd (omega arith)
+    objects-any (suc k) zero s at room l lk ln = absurd (omega arith)
+    objects-any (suc k) (suc n) s at room l lk ln =
+        same-then (object-within k s at room l) (object-any k n s at room l (omega arith) (omega arith)) (λ x e q.
+        let o = place-on s e in
+        let b = q .behind in
+        same-after-object s x e (λ a. readObjs k s a room) (λ a. others n s .objects a room) (λ i. objects-any k n s (placeFrom s e + 1) room i (omega arith) (omega arith)))
+
+  mutual
+    unfolding readPart
+
+    part-any : (k n : ℕ) (s : List ℕ) (at room : ℕ) → at ≤ length s → 4 * (length s - at) + 1 ≤ k → 4 * (length s - at) + 1 ≤ n → readPart k s at room ≡ others n s .part at room
+    part-any zero n s at room l lk ln = absurd (omega arith)
+    part-any (suc k) zero s at room l lk ln = absurd (omega arith)
+    part-any (suc k) (suc n) s at room l lk ln =
+        let p = placeFrom s at in
+        let b = byteAt s p in
+        let a = p + 1 in
+        let o = place-on s at in
+        same-cond (eqb b (code "["))
+        (λ t.
+        let i = mark-within s p (code "[") (omega arith) t in
+        same-opens p room (λ a. andThen (readForms k s a (room - 1)) (λ fs e. got (construct fs) e)) (λ a. andThen (others n s .forms a (room - 1)) (λ fs e. got (construct fs) e))
+        (ap (λ (u : Got Forms). andThen u (λ fs e. got (construct fs) e)) (forms-any k n s a (room - 1) i (omega arith) (omega arith))))
+        (λ t. same-cond (eqb b (code "%"))
+        (λ t.
+        let i = mark-within s p (code "%") (omega arith) t in
+        same-opens p room (λ a. andThen (readObj k s a (room - 1)) (λ x e. got (constant x) e)) (λ a. andThen (others n s .object a (room - 1)) (λ x e. got (constant x) e))
+        (ap (λ (u : Got Obj). andThen u (λ x e. got (constant x) e)) (object-any k n s a (room - 1) i (omega arith) (omega arith))))
+        (λ t. same-cond (eqb b (code "/"))
+        (λ t.
+        let i = mark-within s p (code "/") (omega arith) t in
+        same-opens p room (λ a. andThen (readPart k s a (room - 1)) (λ f e. got (insert f) e)) (λ a. andThen (others n s .part a (room - 1)) (λ f e. got (insert f) e))
+        (ap (λ (u : Got Form). andThen u (λ f e. got (insert f) e)) (part-any k n s a (room - 1) i (omega arith) (omega arith))))
+        (λ t. same-cond (eqb b (code "@"))
+        (λ t.
+        let i = mark-within s p (code "@") (omega arith) t in
+        same-opens p room (λ a. andThen (readPart k s a (room - 1)) (λ f e. got (applyAll f) e)) (λ a. andThen (others n s .part a (room - 1)) (λ f e. got (applyAll f) e))
+        (ap (λ (u : Got Form). andThen u (λ f e. got (applyAll f) e)) (part-any k n s a (room - 1) i (omega arith) (omega arith))))
+        (λ t. same-cond (eqb b (code "{"))
+        (λ t.
+        let i = mark-within s p (code "{") (omega arith) t in
+        same-opens p room
+        (λ a. andThen (readPart k s a (room - 1)) (λ f e. mark (code ",") s e (λ a. andThen (readObj k s a (room - 1)) (λ x e. mark (code "}") s e (λ a. got (bu f x) a)))))
+        (λ a. andThen (others n s .part a (room - 1)) (λ f e. mark (code ",") s e (λ a. andThen (others n s .object a (room - 1)) (λ x e. mark (code "}") s e (λ a. got (bu f x) a)))))
+        (same-then (part-within k s a (room - 1) i) (part-any k n s a (room - 1) i (omega arith) (omega arith)) (λ f e q.
+        let o₁ = place-on s e in
+        let b₁ = q .behind in
+        same-mark (code ",") s e (λ a. andThen (readObj k s a (room - 1)) (λ x e. mark (code "}") s e (λ a. got (bu f x) a))) (λ a. andThen (others n s .object a (room - 1)) (λ x e. mark (code "}") s e (λ a. got (bu f x) a))) (omega arith)
+        (λ j. ap (λ (u : Got Obj). andThen u (λ x e. mark (code "}") s e (λ a. got (bu f x) a))) (object-any k n s (placeFrom s e + 1) (room - 1) j (omega arith) (omega arith))))))
+        (λ t. same-cond (eqb b (code "("))
+        (λ t.
+        let i = mark-within s p (code "(") (omega arith) t in
+        same-opens p room (λ a. andThen (readForm k s a (room - 1)) (λ f e. afterTest s f e (λ a. readForm k s a (room - 1)))) (λ a. andThen (others n s .form a (room - 1)) (λ f e. afterTest s f e (λ a. others n s .form a (room - 1))))
+        (same-then (form-within k s a (room - 1) i) (form-any k n s a (room - 1) i (omega arith) (omega arith)) (λ f e q.
+        let b₁ = q .behind in
+        same-after-test s f e (λ a. readForm k s a (room - 1)) (λ a. others n s .form a (room - 1)) (λ c j. form-within k s c (room - 1) j)
+        (λ c lc j. form-any k n s c (room - 1) j (omega arith) (omega arith)))))
+        (λ t. refl))))))
+
+    form-any : (k n : ℕ) (s : List ℕ) (at room : ℕ) → at ≤ length s → 4 * (length s - at) + 2 ≤ k → 4 * (length s - at) + 2 ≤ n → readForm k s at room ≡ others n s .form at room
+    form-any zero n s at room l lk ln = absurd (omega arith)
+    form-any (suc k) zero s at room l lk ln = absurd (omega arith)
+    form-any (suc k) (suc n) s at room l lk ln =
+        same-then (part-within k s at room l) (part-any k n s at room l (omega arith) (omega arith)) (λ f e q.
+        let o = place-on s e in
+        let b = q .behind in
+        same-after-part s f e (λ a. readParts k s a room) (λ a. others n s .parts a room) (λ i. parts-any k n s (placeFrom s e + 1) room i (omega arith) (omega arith)))
+
+    parts-any : (k n : ℕ) (s : List ℕ) (at room : ℕ) → at ≤ length s → 4 * (length s - at) + 2 ≤ k → 4 * (length s - at) + 2 ≤ n → readParts k s at room ≡ others n s .parts at room
+    parts-any zero n s at room l lk ln = absurd (omega arith)
+    parts-any (suc k) zero s at room l lk ln = absurd (omega arith)
+    parts-any (suc k) (suc n) s at room l lk ln =
+        same-then (part-within k s at room l) (part-any k n s at room l (omega arith) (omega arith)) (λ f e q.
+        let o = place-on s e in
+        let b = q .behind in
+        same-after-parts s f e (λ a. readParts k s a room) (λ a. others n s .parts a room) (λ i. parts-any k n s (placeFrom s e + 1) room i (omega arith) (omega arith)))
+
+    forms-any : (k n : ℕ) (s : List ℕ) (at room : ℕ) → at ≤ length s → 4 * (length s - at) + 3 ≤ k → 4 * (length s - at) + 3 ≤ n → readForms k s at room ≡ others n s .forms at room
+    forms-any zero n s at room l lk ln = absurd (omega arith)
+    forms-any (suc k) zero s at room l lk ln = absurd (omega arith)
+    forms-any (suc k) (suc n) s at room l lk ln =
+        same-then (form-within k s at room l) (form-any k n s at room l (omega arith) (omega arith)) (λ f e q.
+        let o = place-on s e in
+        let b = q .behind in
+        same-after-form s f e (λ a. readForms k s a room) (λ a. others n s .forms a room) (λ i. forms-any k n s (placeFrom s e + 1) room i (omega arith) (omega arith)))
+
+  -- `=form;` from e on
+  definition-any : (k n : ℕ) (s : List ℕ) (p : ℕ) (w : List ℕ) (e : ℕ) → 4 * (length s - e) + 2 ≤ k → 4 * (length s - e) + 2 ≤ n → definitionAt k s p w e ≡ definitionBy s (others n s) p w e
+  unfolding definitionAt
+  definition-any k n s p w e lk ln =
+      let o = place-on s e in
+      same-mark (code "=") s e
+      (λ a. andThen (readForm k s a markLimit) (λ f e. mark (code ";") s e (λ a. got (record { place = p; def = record { called = w; body = f } }) a)))
+      (λ a. andThen (others n s .form a markLimit) (λ f e. mark (code ";") s e (λ a. got (record { place = p; def = record { called = w; body = f } }) a))) (omega arith)
+      (λ i. ap (λ (u : Got Form). andThen u (λ f e. mark (code ";") s e (λ a. got (record { place = p; def = record { called = w; body = f } }) a)))
+      (form-any k n s (placeFrom s e + 1) markLimit i (omega arith) (omega arith)))
+
+  definitions-any : (k n : ℕ) (s : List ℕ) (at : ℕ) → at ≤ length s → 4 * (length s - at) + 1 ≤ k → 4 * (length s - at) + 1 ≤ n → readDefinitions k s at ≡ others n s .definitions at
+  unfolding readDefinitions judgeName
+  definitions-any zero n s at l lk ln = absurd (omega arith)
+  definitions-any (suc k) zero s at l lk ln = absurd (omega arith)
+  definitions-any (suc k) (suc n) s at l lk ln =
       let p = placeFrom s at in
-      let b = byteAt s p in
-      let a = p + 1 in
-      let o = place-on s at in
-      same-cond (eqb b (code "["))
-      (λ t.
-      let i = mark-within s p (code "[") (omega arith) t in
-      same-opens p room (λ a. andThen (readForms k s a (room - 1)) (λ fs e. got (construct fs) e)) (λ a. andThen (readForms n s a (room - 1)) (λ fs e. got (construct fs) e))
-      (ap (λ (u : Got Forms). andThen u (λ fs e. got (construct fs) e)) (forms-calls k n s a (room - 1) i (omega arith) (omega arith))))
-      (λ t. same-cond (eqb b (code "%"))
-      (λ t.
-      let i = mark-within s p (code "%") (omega arith) t in
-      same-opens p room (λ a. andThen (readObj k s a (room - 1)) (λ x e. got (constant x) e)) (λ a. andThen (readObj n s a (room - 1)) (λ x e. got (constant x) e))
-      (ap (λ (u : Got Obj). andThen u (λ x e. got (constant x) e)) (object-calls k n s a (room - 1) i (omega arith) (omega arith))))
-      (λ t. same-cond (eqb b (code "/"))
-      (λ t.
-      let i = mark-within s p (code "/") (omega arith) t in
-      same-opens p room (λ a. andThen (readPart k s a (room - 1)) (λ f e. got (insert f) e)) (λ a. andThen (readPart n s a (room - 1)) (λ f e. got (insert f) e))
-      (ap (λ (u : Got Form). andThen u (λ f e. got (insert f) e)) (part-calls k n s a (room - 1) i (omega arith) (omega arith))))
-      (λ t. same-cond (eqb b (code "@"))
-      (λ t.
-      let i = mark-within s p (code "@") (omega arith) t in
-      same-opens p room (λ a. andThen (readPart k s a (room - 1)) (λ f e. got (applyAll f) e)) (λ a. andThen (readPart n s a (room - 1)) (λ f e. got (applyAll f) e))
-      (ap (λ (u : Got Form). andThen u (λ f e. got (applyAll f) e)) (part-calls k n s a (room - 1) i (omega arith) (omega arith))))
-      (λ t. same-cond (eqb b (code "{"))
-      (λ t.
-      let i = mark-within s p (code "{") (omega arith) t in
-      same-opens p room
-      (λ a. andThen (readPart k s a (room - 1)) (λ f e. mark (code ",") s e (λ a. andThen (readObj k s a (room - 1)) (λ x e. mark (code "}") s e (λ a. got (bu f x) a)))))
-      (λ a. andThen (readPart n s a (room - 1)) (λ f e. mark (code ",") s e (λ a. andThen (readObj n s a (room - 1)) (λ x e. mark (code "}") s e (λ a. got (bu f x) a)))))
-      (same-then (part-within k s a (room - 1) i) (part-calls k n s a (room - 1) i (omega arith) (omega arith)) (λ f e q.
-      let o₁ = place-on s e in
-      let b₁ = q .behind in
-      same-mark (code ",") s e (λ a. andThen (readObj k s a (room - 1)) (λ x e. mark (code "}") s e (λ a. got (bu f x) a))) (λ a. andThen (readObj n s a (room - 1)) (λ x e. mark (code "}") s e (λ a. got (bu f x) a))) (omega arith)
-      (λ j. ap (λ (u : Got Obj). andThen u (λ x e. mark (code "}") s e (λ a. got (bu f x) a))) (object-calls k n s (placeFrom s e + 1) (room - 1) j (omega arith) (omega arith))))))
-      (λ t. same-cond (eqb b (code "("))
-      (λ t.
-      let i = mark-within s p (code "(") (omega arith) t in
-      same-opens p room (λ a. andThen (readForm k s a (room - 1)) (λ f e. afterTest s f e (λ a. readForm k s a (room - 1)))) (λ a. andThen (readForm n s a (room - 1)) (λ f e. afterTest s f e (λ a. readForm n s a (room - 1))))
-      (same-then (form-within k s a (room - 1) i) (form-calls k n s a (room - 1) i (omega arith) (omega arith)) (λ f e q.
-      let b₁ = q .behind in
-      same-after-test s f e (λ a. readForm k s a (room - 1)) (λ a. readForm n s a (room - 1)) (λ c j. form-within k s c (room - 1) j)
-      (λ c lc j. form-calls k n s c (room - 1) j (omega arith) (omega arith)))))
-      (λ t. refl))))))
-
-  pub form-calls : (k n : ℕ) (s : List ℕ) (at room : ℕ) → at ≤ length s → 4 * (length s - at) + 2 ≤ k → 4 * (length s - at) + 2 ≤ n → readForm k s at room ≡ readForm n s at room
-  form-calls zero n s at room l lk ln = absurd (omega arith)
-  form-calls (suc k) zero s at room l lk ln = absurd (omega arith)
-  form-calls (suc k) (suc n) s at room l lk ln =
-      same-then (part-within k s at room l) (part-calls k n s at room l (omega arith) (omega arith)) (λ f e q.
-      let o = place-on s e in
+      same-cond (eqb p (length s)) (λ t. refl)
+      (λ t. same-then (first-within k s at l)
+      (same-then (word-within s at judgeName l refl judged-name) refl (λ w e q.
       let b = q .behind in
-      same-after-part s f e (λ a. readParts k s a room) (λ a. readParts n s a room) (λ i. parts-calls k n s (placeFrom s e + 1) room i (omega arith) (omega arith)))
+      let i = q .inside in
+      definition-any k n s p w e (omega arith) (omega arith)))
+      (λ d e q.
+      let b = q .ends .behind in
+      let i = q .ends .inside in
+      ap (λ (u : Got (List Placed)). andThen u (λ ds e. got (d ∷ ds) e)) (definitions-any k n s e i (omega arith) (omega arith))))
 
-  pub parts-calls : (k n : ℕ) (s : List ℕ) (at room : ℕ) → at ≤ length s → 4 * (length s - at) + 2 ≤ k → 4 * (length s - at) + 2 ≤ n → readParts k s at room ≡ readParts n s at room
-  parts-calls zero n s at room l lk ln = absurd (omega arith)
-  parts-calls (suc k) zero s at room l lk ln = absurd (omega arith)
-  parts-calls (suc k) (suc n) s at room l lk ln =
-      same-then (part-within k s at room l) (part-calls k n s at room l (omega arith) (omega arith)) (λ f e q.
-      let o = place-on s e in
-      let b = q .behind in
-      same-after-parts s f e (λ a. readParts k s a room) (λ a. readParts n s a room) (λ i. parts-calls k n s (placeFrom s e + 1) room i (omega arith) (omega arith)))
+-- ---- the same with Reading's own answer
 
-  pub forms-calls : (k n : ℕ) (s : List ℕ) (at room : ℕ) → at ≤ length s → 4 * (length s - at) + 3 ≤ k → 4 * (length s - at) + 3 ≤ n → readForms k s at room ≡ readForms n s at room
-  forms-calls zero n s at room l lk ln = absurd (omega arith)
-  forms-calls (suc k) zero s at room l lk ln = absurd (omega arith)
-  forms-calls (suc k) (suc n) s at room l lk ln =
-      same-then (form-within k s at room l) (form-calls k n s at room l (omega arith) (omega arith)) (λ f e q.
-      let o = place-on s e in
-      let b = q .behind in
-      same-after-form s f e (λ a. readForms k s a room) (λ a. readForms n s a room) (λ i. forms-calls k n s (placeFrom s e + 1) room i (omega arith) (omega arith)))
+module _ (k n : ℕ) (s : List ℕ) (at room : ℕ) (l : at ≤ length s) where
+  pub object-calls : 2 * (length s - at) + 1 ≤ k → 2 * (length s - at) + 1 ≤ n → readObj k s at room ≡ readObj n s at room
+  object-calls lk ln = object-any (readers 0 s) k n s at room l lk ln ∙ ap (λ (r : Readers). r .object at room) (same-readers n s)
 
--- ---- programs
+  pub part-calls : 4 * (length s - at) + 1 ≤ k → 4 * (length s - at) + 1 ≤ n → readPart k s at room ≡ readPart n s at room
+  part-calls lk ln = part-any (readers 0 s) k n s at room l lk ln ∙ ap (λ (r : Readers). r .part at room) (same-readers n s)
 
--- `=form;` from e on
-pub definition-calls : (k n : ℕ) (s : List ℕ) (p : ℕ) (w : List ℕ) (e : ℕ) → 4 * (length s - e) + 2 ≤ k → 4 * (length s - e) + 2 ≤ n → definitionAt k s p w e ≡ definitionAt n s p w e
-unfolding definitionAt
-definition-calls k n s p w e lk ln =
-    let o = place-on s e in
-    same-mark (code "=") s e
-    (λ a. andThen (readForm k s a markLimit) (λ f e. mark (code ";") s e (λ a. got (record { place = p; def = record { called = w; body = f } }) a)))
-    (λ a. andThen (readForm n s a markLimit) (λ f e. mark (code ";") s e (λ a. got (record { place = p; def = record { called = w; body = f } }) a))) (omega arith)
-    (λ i. ap (λ (u : Got Form). andThen u (λ f e. mark (code ";") s e (λ a. got (record { place = p; def = record { called = w; body = f } }) a)))
-    (form-calls k n s (placeFrom s e + 1) markLimit i (omega arith) (omega arith)))
+  pub form-calls : 4 * (length s - at) + 2 ≤ k → 4 * (length s - at) + 2 ≤ n → readForm k s at room ≡ readForm n s at room
+  form-calls lk ln = form-any (readers 0 s) k n s at room l lk ln ∙ ap (λ (r : Readers). r .form at room) (same-readers n s)
+
+  pub parts-calls : 4 * (length s - at) + 2 ≤ k → 4 * (length s - at) + 2 ≤ n → readParts k s at room ≡ readParts n s at room
+  parts-calls lk ln = parts-any (readers 0 s) k n s at room l lk ln ∙ ap (λ (r : Readers). r .parts at room) (same-readers n s)
+
+  pub forms-calls : 4 * (length s - at) + 3 ≤ k → 4 * (length s - at) + 3 ≤ n → readForms k s at room ≡ readForms n s at room
+  forms-calls lk ln = forms-any (readers 0 s) k n s at room l lk ln ∙ ap (λ (r : Readers). r .forms at room) (same-readers n s)
 
 pub definitions-calls : (k n : ℕ) (s : List ℕ) (at : ℕ) → at ≤ length s → 4 * (length s - at) + 1 ≤ k → 4 * (length s - at) + 1 ≤ n → readDefinitions k s at ≡ readDefinitions n s at
-unfolding readDefinitions judgeName
-definitions-calls zero n s at l lk ln = absurd (omega arith)
-definitions-calls (suc k) zero s at l lk ln = absurd (omega arith)
-definitions-calls (suc k) (suc n) s at l lk ln =
-    let p = placeFrom s at in
-    same-cond (eqb p (length s)) (λ t. refl)
-    (λ t. same-then (first-within k s at l)
-    (same-then (word-within s at judgeName l refl judged-name) refl (λ w e q.
-    let b = q .behind in
-    let i = q .inside in
-    definition-calls k n s p w e (omega arith) (omega arith)))
-    (λ d e q.
-    let b = q .ends .behind in
-    let i = q .ends .inside in
-    ap (λ (u : Got (List Placed)). andThen u (λ ds e. got (d ∷ ds) e)) (definitions-calls k n s e i (omega arith) (omega arith))))
+definitions-calls k n s at l lk ln = definitions-any (readers 0 s) k n s at l lk ln ∙ ap (λ (r : Readers). r .definitions at) (same-readers n s)
+
+pub no-call-left : NoCallLeft
+no-call-left z s k l =
+    (sym (object-any z k k s 0 markLimit (omega arith) (omega arith) (omega arith)), sym (definitions-any z k k s 0 (omega arith) (omega arith) (omega arith)))
 
 pub calls-never-decide : CallsNeverDecide
 calls-never-decide s k l =

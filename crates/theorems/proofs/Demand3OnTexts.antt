@@ -123,19 +123,21 @@ series {s} {u} P e (callThen n i lent h t cs) r few =
 -- ---- a run call that reached an object or bottom
 
 -- the texts were read, and the call's outcome is the run's, as it is for every other program text that reads
-record Opened (s x : List ℕ) (b : Meter) (lent : Lent) : Type 0 where
-  program : Prog
-  object : Obj
-  e : ℕ
-  few : length s ≤ 8192
-  readsProgram : readProgram s ≡ got program e
-  others : (u : List ℕ) (Q : Prog) (d : ℕ) → length u ≤ 8192 → readProgram u ≡ got Q d → runCall u x b lent ≡ ended lent (run one Q object b)
+pub record Opened (s x : List ℕ) (b : Meter) (lent : Lent) : Type 0 where
+  pub program : Prog
+  pub object : Obj
+  pub e : ℕ
+  pub e′ : ℕ
+  pub few : length s ≤ 8192
+  pub readsProgram : readProgram s ≡ got program e
+  pub readsObject : readObject x ≡ got object e′
+  pub others : (u : List ℕ) (Q : Prog) (d : ℕ) → length u ≤ 8192 → readProgram u ≡ got Q d → runCall u x b lent ≡ ended lent (run one Q object b)
 
 -- whether a table has another length, or the cells are over the limit
-abbrev otherTables : Meter → Lent → Bool
+abbrev pub otherTables : Meter → Lent → Bool
 otherTables b lent = ltb 4096 (b .cells) || not (eqb (length (lent .forms)) 8192) || not (eqb (length (lent .cells)) (4 * b .cells))
 
-run-call : (u x : List ℕ) (b : Meter) (lent : Lent) (Q : Prog) (d : ℕ) (y : Obj) (e : ℕ) → length u ≤ 8192 → ltb 16384 (length x) ≡ false → ltb 1000000 (b .steps) ≡ false → ltb 256 (b .names) ≡ false → otherTables b lent ≡ false → readProgram u ≡ got Q d → readObject x ≡ got y e → runCall u x b lent ≡ ended lent (run one Q y b)
+pub run-call : (u x : List ℕ) (b : Meter) (lent : Lent) (Q : Prog) (d : ℕ) (y : Obj) (e : ℕ) → length u ≤ 8192 → ltb 16384 (length x) ≡ false → ltb 1000000 (b .steps) ≡ false → ltb 256 (b .names) ≡ false → otherTables b lent ≡ false → readProgram u ≡ got Q d → readObject x ≡ got y e → runCall u x b lent ≡ ended lent (run one Q y b)
 unfolding runCall
 run-call u x b lent Q d y e l t2 t3 t4 t5 r o = rw (le-ltb 8192 (length u) l, t2, t3, t4, t5, r, o)
 
@@ -147,7 +149,7 @@ pass-read : {A : Type 0} (lent : Lent) (t : ℕ) (r : Got A) (k : A → Outcome)
 pass-read lent t (got a e) k low h = (a, e, refl, h)
 pass-read lent t (no n p) k low h = absurd (omega (arith, low n p refl, reached-low h))
 
-open-run : (s x : List ℕ) (b : Meter) (lent : Lent) → Reached (runCall s x b lent .answer .number) → Opened s x b lent
+pub open-run : (s x : List ℕ) (b : Meter) (lent : Lent) → Reached (runCall s x b lent .answer .number) → Opened s x b lent
 unfolding runCall
 open-run s x b lent h =
     let p1 = pass (ltb 8192 (length s)) 1 lent _ (omega arith) h in
@@ -161,8 +163,10 @@ open-run s x b lent h =
       program = p6 .0;
       object = p7 .0;
       e = p6 .1;
+      e′ = p7 .1;
       few = ltb-false 8192 (length s) (p1 .0);
       readsProgram = p6 .2;
+      readsObject = p7 .2;
       others = λ u Q d l r. run-call u x b lent Q d (p7 .0) (p7 .1) l (p2 .0) (p3 .0) (p4 .0) (p5 .0) r (p7 .2);
     }
 

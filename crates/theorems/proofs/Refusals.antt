@@ -307,7 +307,7 @@ pub record DefinitionEnds (s : List ℕ) (at : ℕ) (d : Placed) (e : ℕ) : Typ
   pub ends : Ends s at e
   pub placed : d .place ≤ length s
 
-data AllPlaced (s : List ℕ) : List Placed → Type 0 where
+pub data AllPlaced (s : List ℕ) : List Placed → Type 0 where
   none : AllPlaced s []
   more : {d : Placed} {ds : List Placed} → d .place ≤ length s → AllPlaced s ds → AllPlaced s (d ∷ ds)
 
@@ -330,7 +330,7 @@ unfolding judgeName
 first-within k s at l =
     meets-then (word-within s at judgeName l refl judged-name) (λ w e q. definition-within k s at (placeFrom s at) w e (place-within s at l) q)
 
-definitions-within : (k : ℕ) (s : List ℕ) (at : ℕ) → at ≤ length s → Reads s (λ ds e. AllPlaced s ds) (readDefinitions k s at)
+pub definitions-within : (k : ℕ) (s : List ℕ) (at : ℕ) → at ≤ length s → Reads s (λ ds e. AllPlaced s ds) (readDefinitions k s at)
 unfolding readDefinitions
 definitions-within zero s at l = spent s
 definitions-within (suc k) s at l =

@@ -4,3 +4,8 @@ pub mod Demand3
 pub mod EachUse
 pub mod Simplifier
 pub mod Budgets
+pub mod Results
+pub mod Equality
+pub mod AnswerTable
+pub mod Written
+pub mod CallsLeft
