@@ -9,7 +9,8 @@ use borrow.Author.Tests.{lt-ltb, le-ltb}
 use Rattle.language.specs.Objects.{Obj, int, seq, Objs, nil, _::_, lengthOf, nthObj}
 use Rattle.language.specs.Words.{Op}
 use Rattle.language.specs.Forms.{select, selectRight, op}
-use Rattle.language.specs.Meanings.{one, WordAnswer, falls, gives, number, onSeq, onFull, pick, nth, fromLeft, fromRight}
+use Rattle.language.specs.Numbers.{one}
+use Rattle.language.specs.Meanings.{WordAnswer, falls, gives, number, onSeq, onFull, pick, nth, fromLeft, fromRight}
 use Rattle.language.specs.declared.Meter.{Meter}
 use Rattle.language.specs.declared.Val.{Val}
 use Rattle.cells.specs.Cells.{Rep, rep-pos, rep-neg, rep-symbol, rep-nil, rep-more, free}

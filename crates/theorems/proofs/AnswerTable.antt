@@ -15,7 +15,7 @@ use Rattle.language.specs.Objects.{Obj}
 use Rattle.language.specs.Forms.{Prog, formsOf}
 use Rattle.language.specs.Reading.{Got, got, no, Placed, programOf, calls, isIn, noneTwice, withinLimits, readObject, readProgram}
 use Rattle.language.specs.Writing.{writeObj, writeProgram, Scan, on, short, deep, scan}
-use Rattle.language.specs.Meanings.{one}
+use Rattle.language.specs.Numbers.{one}
 use Rattle.language.specs.Evaluation.{noStep, noName, noCell, RunEnd, done, fell, ranOut, tooFew, run}
 use Rattle.language.specs.Laws.{Law}
 use Rattle.language.specs.Uses.{applyLaw, lawNumbered, simplify}

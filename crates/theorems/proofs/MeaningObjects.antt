@@ -4,13 +4,13 @@ use mathlib.Core.Path.{_≡_, refl}
 use mathlib.Core.Bool.{Bool, true, false, _&&_, _||_, not as opposite}
 use mathlib.Core.Option.{Option, some, none}
 use native.Mathlib.Omega.{arith}
-use lib.IntN.{ℤ, pos, negsuc}
+use lib.IntN.{ℤ, pos, negsuc, _+ℤ_, _-ℤ_, _*ℤ_}
 use lib.Signed.{ltZ}
-use borrow.Author.Tests.{ltb-true}
-use Rattle.language.specs.Objects.{Obj, int, symbol, seq, Objs, nil, _::_, lengthOf, _+++_, truth, Truth, truthOf, isT, isF, neither}
+use Rattle.language.specs.Objects.{Obj, int, symbol, seq, Objs, nil, _::_, lengthOf, _+++_, nthObj, truth, Truth, truthOf, isT, isF, neither}
 use Rattle.language.specs.Words.{Op}
 use Rattle.language.specs.Forms.{Word, select, selectRight, op}
-use Rattle.language.specs.Meanings.{Edition, one, WordAnswer, falls, gives, made, inRange, number, divided, onSeq, onFull, onPair, onInt, onTruth, nth, pick, fromLeft, fromRight, turnedOnto, dropLast, lastOf, toLeft, toRight, withLeft, withRight, Cut, uneven, done, cut, addRow, onlyRow, cutRows, columns, widthOf, isAtom, isNull, Looked, look, meaning}
+use Rattle.language.specs.Numbers.{Edition, one, inRange}
+use Rattle.language.specs.Meanings.{WordAnswer, falls, gives, made, number, quotient, divided, onSeq, onFull, onPair, onInt, onTruth, nth, pick, fromLeft, fromRight, turnedOnto, dropLast, lastOf, toLeft, toRight, withLeft, withRight, areRows, entryAt, columnAt, columnsAt, transposed, widthOf, isAtom, isNull, Looked, look, meaning}
 use Rattle.language.specs.Accepted.{IsInteger, IsObj, AreObjs}
 
 -- what a word gives is such an object
@@ -71,8 +71,7 @@ truth-given : {s c : ℕ} (t : Bool) → Given (gives s c (truth t))
 truth-given t = given (is-truth t)
 
 in-range : (e : Edition) (z : ℤ) → inRange e z ≡ true → IsInteger z
-in-range one (pos n) h = let l = ltb-true n 2147483648 h in omega arith
-in-range one (negsuc n) h = let l = ltb-true n 2147483648 h in omega arith
+in-range one z h = h
 
 number-given : (e : Edition) (o : Op) (z : ℤ) → Given (number e o z)
 number-given e o z = go (inRange e z) refl
@@ -83,8 +82,8 @@ number-given e o z = go (inRange e z) refl
 
 divided-given : (e : Edition) (a b : ℤ) → Given (divided e a b)
 divided-given e a (pos zero) = nothing
-divided-given e a (pos (suc n)) = number-given e Op.div _
-divided-given e a (negsuc n) = number-given e Op.div _
+divided-given e a (pos (suc n)) = number-given e Op.div (quotient e a (pos (suc n)))
+divided-given e a (negsuc n) = number-given e Op.div (quotient e a (negsuc n))
 
 -- ---- sequences
 
@@ -131,41 +130,33 @@ with-right-objs (x :: xs) b h k = ((h .0, (k, tt)), with-right-objs xs b (h .1) 
 
 -- ---- columns
 
-data Cuts : Cut → Type 0 where
-  no-cut : Cuts uneven
-  all-cut : Cuts done
-  row-cut : {hs ts : Objs} → AreObjs hs → AreObjs ts → Cuts (cut hs ts)
+nth-obj : (xs : Objs) (j : ℕ) → AreObjs xs → IsObj (nthObj xs j)
+unfolding nthObj
+nth-obj nil j h = tt
+nth-obj (x :: xs) zero h = h .0
+nth-obj (x :: xs) (suc j) h = nth-obj xs j (h .1)
 
-add-row : (r : Obj) (c : Cut) → IsObj r → Cuts c → Cuts (addRow r c)
-add-row (int a) c h k = no-cut
-add-row (symbol a) c h k = no-cut
-add-row (seq nil) uneven h k = no-cut
-add-row (seq nil) done h k = all-cut
-add-row (seq nil) (cut hs ts) h k = no-cut
-add-row (seq (x :: xs)) uneven h k = no-cut
-add-row (seq (x :: xs)) done h k = no-cut
-add-row (seq (x :: xs)) (cut hs ts) h (row-cut p q) = row-cut {hs = x :: hs} {ts = seq xs :: ts} (h .0, p) (h .1, q)
+entry-obj : (j : ℕ) (r : Obj) → IsObj r → IsObj (entryAt j r)
+entry-obj j (int a) h = tt
+entry-obj j (symbol a) h = tt
+entry-obj j (seq xs) h = nth-obj xs j h
 
-only-row : (r : Obj) → IsObj r → Cuts (onlyRow r)
-only-row (int a) h = no-cut
-only-row (symbol a) h = no-cut
-only-row (seq nil) h = all-cut
-only-row (seq (x :: xs)) h = row-cut {hs = x :: nil} {ts = seq xs :: nil} (h .0, tt) (h .1, tt)
+column-objs : (j : ℕ) (rs : Objs) → AreObjs rs → AreObjs (columnAt j rs)
+unfolding columnAt
+column-objs j nil h = tt
+column-objs j (r :: rs) h = (entry-obj j r (h .0), column-objs j rs (h .1))
 
-cut-rows : (r : Obj) (rs : Objs) → IsObj r → AreObjs rs → Cuts (cutRows r rs)
-cut-rows r nil h k = only-row r h
-cut-rows r (q :: qs) h k = add-row r (cutRows q qs) h (cut-rows q qs (k .0) (k .1))
+columns-objs : (j m : ℕ) (rs : Objs) → AreObjs rs → AreObjs (columnsAt j m rs)
+unfolding columnsAt
+columns-objs j zero rs h = tt
+columns-objs j (suc m) rs h = (column-objs j rs h, columns-objs (suc j) m rs h)
 
-columns-given : (n : ℕ) (r : Obj) (rs : Objs) (k : Objs → WordAnswer) → IsObj r → AreObjs rs → ((cs : Objs) → AreObjs cs → Given (k cs)) → Given (columns n r rs k)
-columns-given zero r rs k h hs f = nothing
-columns-given (suc j) r rs k h hs f = go (cutRows r rs) (cut-rows r rs h hs) (columns-given j)
+transposed-given : (m : ℕ) (rs : Objs) → AreObjs rs → Given (transposed m rs)
+transposed-given m rs h = go (areRows m rs) refl
   where
-    go : (c : Cut) → Cuts c → ((q : Obj) (qs : Objs) (k : Objs → WordAnswer) → IsObj q → AreObjs qs → ((cs : Objs) → AreObjs cs → Given (k cs)) → Given (columns j q qs k))
-        → Given (elim c as (λ (c : Cut). WordAnswer) [ uneven ↦ falls | done ↦ k nil | cut hs ts ↦ elim ts as (λ (ts : Objs). WordAnswer) [ nil ↦ falls | q :: qs ↦ columns j q qs (λ cs. k (seq hs :: cs)) ] ])
-    go uneven g i = nothing
-    go done g i = f nil tt
-    go (cut us nil) g i = nothing
-    go (cut us (q :: qs)) (row-cut p t) i = i q qs (λ cs. k (seq us :: cs)) (t .0) (t .1) (λ cs g. f (seq us :: cs) (p, g))
+    go : (t : Bool) → areRows m rs ≡ t → Given (transposed m rs)
+    go true e = rw (e, transposed) (given (columns-objs 0 m rs h))
+    go false e = rw (e, transposed) nothing
 
 -- ---- every word
 
@@ -177,9 +168,9 @@ op-given e Op.null x h = truth-given (isNull x)
 op-given e Op.eq x h = on-pair x _ h (λ a b p q. truth-given (look a b .same))
 op-given e Op.lt x h = on-ints x _ h (λ i j. truth-given (ltZ i j))
 op-given e Op.length x h = on-seq x _ h (λ xs p. number-given e Op.length (pos (lengthOf xs)))
-op-given e Op.add x h = on-ints x _ h (λ i j. number-given e Op.add _)
-op-given e Op.sub x h = on-ints x _ h (λ i j. number-given e Op.sub _)
-op-given e Op.mul x h = on-ints x _ h (λ i j. number-given e Op.mul _)
+op-given e Op.add x h = on-ints x _ h (λ i j. number-given e Op.add (i +ℤ j))
+op-given e Op.sub x h = on-ints x _ h (λ i j. number-given e Op.sub (i -ℤ j))
+op-given e Op.mul x h = on-ints x _ h (λ i j. number-given e Op.mul (i *ℤ j))
 op-given e Op.div x h = on-ints x _ h (λ i j. divided-given e i j)
 op-given e Op.and x h = on-truths x (λ i j. gives 0 0 (truth (i && j))) h (λ i j. truth-given (i && j))
 op-given e Op.or x h = on-truths x (λ i j. gives 0 0 (truth (i || j))) h (λ i j. truth-given (i || j))
@@ -192,7 +183,7 @@ op-given e Op.rotr x h = on-seq x _ h (λ xs p. given (right-objs xs p))
 op-given e Op.apndr x h = on-pair x _ h (λ a b p q. on-seq a _ p (λ xs u. given (append-objs xs (b :: nil) u (q, tt))))
 op-given e Op.distl x h = on-pair x _ h (λ a b p q. on-seq b _ q (λ ys u. given (with-left-objs a ys p u)))
 op-given e Op.distr x h = on-pair x _ h (λ a b p q. on-seq a _ p (λ xs u. given (with-right-objs xs b u q)))
-op-given e Op.trans x h = on-full x _ h (λ r rs p q. columns-given (suc (widthOf r)) r rs (λ cs. made Op.trans (suc (lengthOf rs)) (lengthOf cs) (seq cs)) p q (λ cs u. given {v = seq cs} u))
+op-given e Op.trans x h = on-full x _ h (λ r rs p q. transposed-given (widthOf r) (r :: rs) (p, q))
 
 pub word-given : (e : Edition) (w : Word) (x : Obj) → IsObj x → Given (meaning e w x)
 word-given e (select k) x h = on-seq x _ h (λ xs p. pick-given (fromLeft k (lengthOf xs)) xs p)

@@ -9,7 +9,8 @@ use Rattle.language.specs.declared.Meter.{Meter}
 use Rattle.language.specs.Bytes.{sameBytes}
 use Rattle.language.specs.Objects.{Obj}
 use Rattle.language.specs.Forms.{Form, mainForm, Prog}
-use Rattle.language.specs.Meanings.{Edition, WordAnswer}
+use Rattle.language.specs.Numbers.{Edition}
+use Rattle.language.specs.Meanings.{WordAnswer}
 use Rattle.language.specs.Evaluation.{lookup, done, run}
 use Rattle.language.specs.Accepted.{IsObj, AreObjs, IsForm, AreForms, AreDefinitions, WellFormed}
 use Rattle.theorems.specs.Results.{ResultsAreObjects}

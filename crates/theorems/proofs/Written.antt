@@ -17,7 +17,7 @@ use Rattle.language.specs.Tokens.{span, placeFrom, size, sizeAt, dashSize}
 use Rattle.language.specs.Judging.{judgeWord, wordForm, judgePart, judgeName}
 use Rattle.language.specs.Reading.{got, readObject, readProgram, mark, afterPart, readForm, definitionAt, readDefinitions, isIn, noneTwice, withinLimits}
 use Rattle.language.specs.Writing.{writeObj, Scan, on, short, deep, scan}
-use Rattle.language.specs.Meanings.{one}
+use Rattle.language.specs.Numbers.{one}
 use Rattle.language.specs.Evaluation.{noStep, noName, noCell, RunEnd, done, fell, ranOut, tooFew, startingCells, run}
 use Rattle.language.specs.Accepted.{IsObj, WellFormed}
 use Rattle.language.specs.Answers.{Lent, Outcome, counting, written, roomIn, scanned, ended, runCall}

@@ -10,7 +10,8 @@ use Rattle.language.specs.Objects.{Obj, Objs}
 use Rattle.language.specs.Forms.{Form, construct, constant, insert, applyAll, bu, Forms, Def}
 use Rattle.language.specs.Tokens.{byteAt, placeFrom}
 use Rattle.language.specs.Judging.{judgeAtom, judgePart, judgeName}
-use Rattle.language.specs.Reading.{Got, got, andThen, wordAt, asJudged, mark, opens, insideSequence, afterObject, afterTest, afterPart, afterParts, afterForm, Placed, markLimit, calls, readObj, readObjs, readForm, readParts, readForms, readPart, readDefinitions}
+use Rattle.language.specs.Numbers.{markLimit}
+use Rattle.language.specs.Reading.{Got, got, andThen, wordAt, asJudged, mark, opens, insideSequence, afterObject, afterTest, afterPart, afterParts, afterForm, Placed, calls, readObj, readObjs, readForm, readParts, readForms, readPart, readDefinitions}
 
 -- a reader of each kind, by the place and, but for definitions, the marks that may open
 pub record Readers : Type 0 where

@@ -4,7 +4,7 @@ use mathlib.Core.Path.{_≡_}
 use Rattle.language.specs.declared.Meter.{Meter}
 use Rattle.language.specs.Objects.{Obj}
 use Rattle.language.specs.Forms.{Prog}
-use Rattle.language.specs.Meanings.{Edition}
+use Rattle.language.specs.Numbers.{Edition}
 use Rattle.language.specs.Evaluation.{done, run}
 use Rattle.language.specs.Accepted.{Accepted, IsObj}
 
