@@ -4,7 +4,7 @@ use mathlib.Core.Path.{_≡_, refl, sym, ap, _∙_}
 use mathlib.Core.Bool.{Bool, true, false, cond}
 use native.Mathlib.Omega.{arith}
 use lib.Dec.{eqb, leb}
-use borrow.Author.Tests.{leb-true, leb-false, eqb-true, eqb-false, lt-leb, ne-eqb}
+use borrow.Author.Tests.{leb-true, leb-false, eqb-true, eqb-false, le-leb, lt-leb, eq-eqb, ne-eqb}
 use Rattle.language.specs.Evaluation.{Out, spent, close, noStep, noName, noCell, askStep, askCells, askName}
 use Rattle.language.specs.Evaluation.{Spent as Budget}
 use Rattle.language.specs.Charging.{takeStep, takeCells, takeName, stepCharge, cellsCharge, nameCharge, closed, cellsTaken, withNames}
@@ -109,6 +109,25 @@ spent-else false m t e = (refl, cc)
 
 pos-of : (n : ℕ) → (n ≡ 0 → ⊥) → n - 1 + 1 ≡ n
 pos-of n h = omega (arith, h)
+
+-- What each method answers in its two cases.
+pub step-refused : (m : Meter) → m .steps ≡ 0 → Spent m ≡ stepCharge m
+step-refused m h = rw (step-tested m, eq-eqb (m .steps) 0 h)
+
+pub step-given : (m : Meter) → 1 ≤ m .steps → Granted (stepTaken m) ≡ stepCharge m
+step-given m h = rw (step-tested m, ne-eqb (m .steps) 0 (λ e. omega arith))
+
+pub cells-refused : (n : ℕ) (m : Meter) → m .cells < n → Spent m ≡ cellsCharge n m
+cells-refused n m h = rw (cells-tested n m, lt-leb n (m .cells) h)
+
+pub cells-given : (n : ℕ) (m : Meter) → n ≤ m .cells → Granted (cellsTaken n m) ≡ cellsCharge n m
+cells-given n m h = rw (cells-tested n m, le-leb n (m .cells) h)
+
+pub name-refused : (m : Meter) → m .names ≡ 0 → Spent m ≡ nameCharge m
+name-refused m h = rw (name-tested m, eq-eqb (m .names) 0 h)
+
+pub name-given : (m : Meter) → 1 ≤ m .names → Granted (nameTaken m) ≡ nameCharge m
+name-given m h = rw (name-tested m, ne-eqb (m .names) 0 (λ e. omega arith))
 
 pub step-granted : (m : Meter) {k : Meter} → stepCharge m ≡ Granted k → Left m k 1 0 0
 step-granted m e =
