@@ -4,6 +4,7 @@ use mathlib.Core.Path.{_≡_}
 use Prim.Native.Char.{code}
 use mathlib.Core.List.{List, _++_}
 use lib.ListN.{length}
+use Rattle.language.specs.Numbers.{programLimit, one}
 use Rattle.language.specs.Objects.{Obj}
 use Rattle.language.specs.Forms.{Form, Forms, count, constantCells}
 use Rattle.language.specs.Tokens.{byteAt, placeFrom}
@@ -32,7 +33,7 @@ use Rattle.forms.specs.Readers.{plainAt, formAt, whileAt, Branches, cond
 
 -- Reading may go on at a place: no more forms and cells were counted than bytes were passed.
 pub record Ready (s : List ℕ) (at n c : ℕ) : Type 0 where
-  pub short : length s ≤ 8192
+  pub short : length s ≤ programLimit
   pub inside : at ≤ length s
   pub forms : n ≤ at
   pub cells : c ≤ at

@@ -9,7 +9,7 @@ use Rattle.language.specs.Objects.{Obj}
 use Rattle.language.specs.Forms.{Prog}
 use Rattle.language.specs.Reading.{Got, got, no, readObject, readProgram}
 use Rattle.language.specs.Writing.{writeObj, writeProgram, Scan, on, short, deep, scan}
-use Rattle.language.specs.Numbers.{programLimit, objectLimit, stepLimit, nameLimit, cellLimit, formTable, cellTable, writtenLimit, one}
+use Rattle.language.specs.Numbers.{programLimit, objectLimit, stepLimit, nameLimit, cellLimit, formTableSize, cellTableSize, writtenLimit, one}
 use Rattle.language.specs.Evaluation.{Spent, noStep, noName, noCell, RunEnd, done, fell, ranOut, tooFew, run}
 use Rattle.language.specs.Laws.{Law}
 use Rattle.language.specs.Uses.{Simplified, simplify, applyLaw, lawNumbered}
@@ -91,7 +91,7 @@ runCall program object budgets lent =
     (cond (ltb objectLimit (length object)) (untouched 2 lent)
     (cond (ltb stepLimit (budgets .steps)) (untouched 3 lent)
     (cond (ltb nameLimit (budgets .names)) (untouched 4 lent)
-    (cond (ltb cellLimit (budgets .cells) || not (eqb (length (lent .forms)) formTable) || not (eqb (length (lent .cells)) (cellTable (budgets .cells)))) (untouched 5 lent)
+    (cond (ltb cellLimit (budgets .cells) || not (eqb (length (lent .forms)) formTableSize) || not (eqb (length (lent .cells)) (cellTableSize (budgets .cells)))) (untouched 5 lent)
     follows))))
 
 -- For the laws, 20 and 25 carry the uses made as steps; cells is 0.
@@ -104,7 +104,7 @@ abbrev pub withProgram : List ℕ → Lent → (Prog → Outcome) → Outcome
 withProgram program lent k =
     let follows = onRead lent 1 (readProgram program) k in
     cond (ltb programLimit (length program)) (untouched 1 lent)
-    (cond (not (eqb (length (lent .forms)) formTable) || not (eqb (length (lent .cells)) (cellTable cellLimit))) (untouched 5 lent)
+    (cond (not (eqb (length (lent .forms)) formTableSize) || not (eqb (length (lent .cells)) (cellTableSize cellLimit))) (untouched 5 lent)
     follows)
 
 -- A law call: 15, 14, 25. A place that no form has gives 14.

@@ -7,7 +7,7 @@ use mathlib.Core.Option.{Option, some, none}
 use lib.Dec.{leb, eqb}
 use lib.ListN.{length, take, replicate}
 use Rattle.language.specs.Bytes.{bytes}
-use Rattle.language.specs.Numbers.{formTable, cellTable, writtenLimit}
+use Rattle.language.specs.Numbers.{formTableSize, cellTableSize, writtenLimit}
 use Rattle.language.specs.Tokens.{isDigit}
 use Rattle.language.specs.Judging.{all, valueOf, leadingZero}
 use Rattle.language.specs.Writing.{decimal}
@@ -56,7 +56,7 @@ budgetsIn line =
 
 -- What fprun lends: tables of the right length and an output buffer of 16,384 bytes.
 abbrev pub lentFor : Meter → Lent
-lentFor b = record { forms = replicate formTable 0; cells = replicate (cellTable (b .cells)) 0; output = replicate writtenLimit 0 }
+lentFor b = record { forms = replicate formTableSize 0; cells = replicate (cellTableSize (b .cells)) 0; output = replicate writtenLimit 0 }
 
 abbrev pub line : List ℕ → List ℕ
 line s = s ++ bytes "\n"

@@ -32,11 +32,11 @@ abbrev pub cellLimit : ℕ
 cellLimit = 4096
 
 -- A form table of exactly 8,192 32-bit numbers; exactly four to each budgeted cell.
-abbrev pub formTable : ℕ
-formTable = 8192
+abbrev pub formTableSize : ℕ
+formTableSize = 8192
 
-abbrev pub cellTable : ℕ → ℕ
-cellTable cells = 4 * cells
+abbrev pub cellTableSize : ℕ → ℕ
+cellTableSize cells = 4 * cells
 
 -- A written text has at most 16,384 bytes.
 abbrev pub writtenLimit : ℕ

@@ -7,7 +7,7 @@ use Rattle.language.specs.Objects.{Obj}
 use Rattle.language.specs.Forms.{mainForm}
 use Rattle.language.specs.Accepted.{AreDefinitions}
 use Rattle.language.specs.Reading.{Placed, programOf}
-use Rattle.language.specs.Numbers.{one}
+use Rattle.language.specs.Numbers.{one, formLimit}
 use Rattle.language.specs.Evaluation.{apply}
 use Rattle.language.specs.declared.Meter.{Meter}
 use Rattle.language.specs.declared.Val.{Val}
@@ -22,7 +22,7 @@ use Rattle.primitives.specs.Ends.{Gives}
 pub record Loaded (placed : List Placed) (T : List ℕ) (total : ℕ) (D : List ℕ) (many : ℕ) (C : List ℕ) (m : Meter) : Type 0 where
   pub formed : AreDefinitions (programOf placed)
   pub forms : Stands T C (free C m) 0 (bodies (programOf placed)) total
-  pub fewForms : total ≤ 2048
+  pub fewForms : total ≤ formLimit
   pub inTable : total * 4 ≤ length T
   pub count : many ≡ length placed
   pub blank : List ℕ

@@ -6,7 +6,7 @@ use mathlib.Core.List.{List}
 use lib.Dec.{ltb, eqb}
 use Rattle.language.specs.Objects.{Obj}
 use Rattle.language.specs.Reading.{readObject, readProgram}
-use Rattle.language.specs.Numbers.{one}
+use Rattle.language.specs.Numbers.{one, programLimit, objectLimit, stepLimit, nameLimit, cellLimit, formTableSize, cellTableSize}
 use Rattle.language.specs.Evaluation.{Out, counted, run}
 use Rattle.language.specs.Answers.{Lent, Outcome, onRead, ended, runCall}
 use Rattle.language.specs.declared.Meter.{Meter}
@@ -34,21 +34,21 @@ RunDetermined =
 -- 1 to 5, by lengths and budgets; 0 if none of them
 unfoldable pub earlyRefusal : (program object : ℕ) → Meter → (forms cells : ℕ) → ℕ
 earlyRefusal program object b forms cells =
-    cond (ltb 8192 program) 1
-    (cond (ltb 16384 object) 2
-    (cond (ltb 1000000 (b .steps)) 3
-    (cond (ltb 256 (b .names)) 4
-    (cond (ltb 4096 (b .cells) || not (eqb forms 8192) || not (eqb cells (4 * b .cells))) 5 0))))
+    cond (ltb programLimit program) 1
+    (cond (ltb objectLimit object) 2
+    (cond (ltb stepLimit (b .steps)) 3
+    (cond (ltb nameLimit (b .names)) 4
+    (cond (ltb cellLimit (b .cells) || not (eqb forms formTableSize) || not (eqb cells (cellTableSize (b .cells)))) 5 0))))
 
 -- what holds where it is 0
 pub record Sized (program object : ℕ) (b : Meter) (forms cells : ℕ) : Type 0 where
-  pub shortProgram : program ≤ 8192
-  pub shortObject : object ≤ 16384
-  pub fewSteps : b .steps ≤ 1000000
-  pub fewNames : b .names ≤ 256
-  pub fewCells : b .cells ≤ 4096
-  pub formTable : forms ≡ 8192
-  pub cellTable : cells ≡ 4 * b .cells
+  pub shortProgram : program ≤ programLimit
+  pub shortObject : object ≤ objectLimit
+  pub fewSteps : b .steps ≤ stepLimit
+  pub fewNames : b .names ≤ nameLimit
+  pub fewCells : b .cells ≤ cellLimit
+  pub formTable : forms ≡ formTableSize
+  pub cellTable : cells ≡ cellTableSize (b .cells)
 
 -- what a run call does then
 unfoldable pub onTexts : (program object : List ℕ) → Meter → Lent → Outcome

@@ -7,7 +7,7 @@ use lib.Dec.{ltb, eqb}
 use Rattle.language.specs.Objects.{Obj}
 use Rattle.language.specs.Forms.{Prog, mainForm}
 use Rattle.language.specs.Reading.{got, Placed, readProgram, programOf}
-use Rattle.language.specs.Numbers.{one}
+use Rattle.language.specs.Numbers.{one, objectLimit, formLimit, definitionLimit, cellLimit, formTableSize, cellTableSize}
 use Rattle.language.specs.Evaluation.{Out, apply}
 use Rattle.language.specs.Answers.{writing}
 use Rattle.language.specs.declared.Meter.{Meter}
@@ -22,7 +22,7 @@ use Rattle.nattglod.specs.Calls.{budgets, lends, TextsAnswered, EndAnswe
 
 -- the last of the early refusals, by the budgeted cells and the lengths of both tables
 unfoldable pub tableRefusal : (budget forms cells : ℕ) → ℕ
-tableRefusal budget forms cells = cond (ltb 4096 budget || not (eqb forms 8192) || not (eqb cells (4 * budget))) 5 0
+tableRefusal budget forms cells = cond (ltb cellLimit budget || not (eqb forms formTableSize) || not (eqb cells (cellTableSize budget))) 5 0
 
 -- P was read from the program's text and lies in the tables, its constants in the first `used` cells if the table has room.
 pub record ProgramLies (program : List ℕ) (P : Prog) (T : List ℕ) (total : ℕ) (D : List ℕ) (many : ℕ) (C : List ℕ) (used : ℕ) : Type 0 where
@@ -36,12 +36,12 @@ pub record ProgramLies (program : List ℕ) (P : Prog) (T : List ℕ) (total : �
 -- What is behind the program's text has the sizes that are allowed: the object's text, the budgeted cells and both tables; and
 -- the program's forms, definitions and cells of constants.
 pub record Small (object : ℕ) (b : Meter) (forms total many cells used : ℕ) : Type 0 where
-  pub shortObject : object ≤ 16384
-  pub fewCells : b .cells ≤ 4096
-  pub formTable : forms ≡ 8192
-  pub cellTable : cells ≡ 4 * b .cells
-  pub fewForms : total ≤ 2048
-  pub fewDefinitions : many ≤ 128
+  pub shortObject : object ≤ objectLimit
+  pub fewCells : b .cells ≤ cellLimit
+  pub formTable : forms ≡ formTableSize
+  pub cellTable : cells ≡ cellTableSize (b .cells)
+  pub fewForms : total ≤ formLimit
+  pub fewDefinitions : many ≤ definitionLimit
   pub fewConstants : used ≤ 4093
 
 -- what the object's text gives then

@@ -6,6 +6,7 @@ use mathlib.Core.Bool.{Bool, true, not, _&&_}
 use mathlib.Core.List.{List, [], _∷_, _++_}
 use lib.Dec.{eqb}
 use lib.ListN.{length, drop}
+use Rattle.language.specs.Numbers.{writtenLimit}
 use Rattle.language.specs.Objects.{Obj, seq, Objs, _::_}
 use Rattle.language.specs.Judging.{all}
 use Rattle.language.specs.Accepted.{IsSymbol}
@@ -79,7 +80,7 @@ pub record PlacesWalked (C : List ℕ) (v : Val) (at cap opened : ℕ) (r : Writ
 
 -- the bytes that an output of n bytes may take
 abbrev pub outputRoom : ℕ → ℕ
-outputRoom n = min n 16384
+outputRoom n = min n writtenLimit
 
 -- The text stands in front and the rest of the output is as it was; or nothing has changed.
 pub data Outcome (text : List ℕ) (r : Written) (out out′ : List ℕ) : Scan → Type 0 where

@@ -2,6 +2,7 @@
 use Prim.Native.Nat.{ℕ, min, _≤_, _<_}
 use mathlib.Core.Path.{_≡_}
 use mathlib.Core.List.{List}
+use Rattle.language.specs.Numbers.{formLimit}
 use Rattle.language.specs.Objects.{Obj, seq, Objs}
 use Rattle.language.specs.Forms.{Form, Forms, _&_, _+&_, count}
 use Rattle.language.specs.Writing.{marksOf, marksOfObj, marksOfObjs}
@@ -30,13 +31,13 @@ pub record Deep (t C : List ℕ) (n m : ℕ) (fs : Forms) (e : ℕ) (r : Depth) 
 
 pub record FormDepth (t C : List ℕ) (i : ℕ) (r : Depth) : Type 0 where
   pub ahead : i ≤ r .next
-  pub means : (n e : ℕ) (f : Form) (gs : Forms) → n < 4294967296 → e ≤ 2048 → Stands t C n i (f & gs) e → Deep t C n (marksOf f) gs e r
+  pub means : (n e : ℕ) (f : Form) (gs : Forms) → n < 4294967296 → e ≤ formLimit → Stands t C n i (f & gs) e → Deep t C n (marksOf f) gs e r
 
 -- a part of a form of kind k
 pub record PartDepth (t C : List ℕ) (k i : ℕ) (r : Depth) : Type 0 where
   pub ahead : i ≤ r .next
-  pub means : (n e j : ℕ) (g f : Form) (gs : Forms) → n < 4294967296 → e ≤ 2048 → k ≡ kindAt t j → Row t C n j g → Stands t C n i (f & gs) e → Deep t C n (partMarks g f) gs e r
+  pub means : (n e j : ℕ) (g f : Form) (gs : Forms) → n < 4294967296 → e ≤ formLimit → k ≡ kindAt t j → Row t C n j g → Stands t C n i (f & gs) e → Deep t C n (partMarks g f) gs e r
 
 pub record PartsDepth (t C : List ℕ) (k arity i : ℕ) (r : Depth) : Type 0 where
   pub ahead : i ≤ r .next
-  pub means : (n e j : ℕ) (g : Form) (fs gs : Forms) → n < 4294967296 → e ≤ 2048 → k ≡ kindAt t j → Row t C n j g → arity ≡ count fs → Stands t C n i (fs +& gs) e → Deep t C n (partsMarks g fs) gs e r
+  pub means : (n e j : ℕ) (g : Form) (fs gs : Forms) → n < 4294967296 → e ≤ formLimit → k ≡ kindAt t j → Row t C n j g → arity ≡ count fs → Stands t C n i (fs +& gs) e → Deep t C n (partsMarks g fs) gs e r

@@ -4,6 +4,7 @@ use Prim.Native.Char.{code}
 use mathlib.Core.Path.{_≡_}
 use mathlib.Core.List.{List, [], _∷_, _++_}
 use lib.ListN.{length, drop, getD}
+use Rattle.language.specs.Numbers.{formLimit, markLimit, writtenLimit}
 use Rattle.language.specs.Forms.{Forms, _&_, Def, Prog}
 use Rattle.language.specs.Accepted.{IsName, AreDefinitions}
 use Rattle.language.specs.Packing.{packed}
@@ -29,7 +30,7 @@ pub data Named (D : List ℕ) : ℕ → Prog → Type 0 where
 -- of C, its names in D.
 pub record Holds (t C D : List ℕ) (defs n end : ℕ) (P : Prog) : Type 0 where
   pub cells : n < 4294967296
-  pub forms : end ≤ 2048
+  pub forms : end ≤ formLimit
   pub stands : Stands t C n 0 (bodies P) end
   pub names : Named D 0 P
   pub many : length P ≡ defs
@@ -37,29 +38,29 @@ pub record Holds (t C D : List ℕ) (defs n end : ℕ) (P : Prog) : Type 0 where
 
 -- ---- inside
 pub record DefinitionWalked (t C D : List ℕ) (k i at : ℕ) (r : Way) (out out′ : List ℕ) : Type 0 where
-  pub means : (n e : ℕ) (d : Def) (gs : Forms) → n < 4294967296 → e ≤ 2048 → nameAt D k ≡ packed (d .called) → IsName (d .called) → Writable (d .body) → Stands t C n i (d .body & gs) e → Went t C n (d .called ++ (code "=" ∷ (writeForm (d .body) ++ code ";" ∷ []))) gs e at r out out′
+  pub means : (n e : ℕ) (d : Def) (gs : Forms) → n < 4294967296 → e ≤ formLimit → nameAt D k ≡ packed (d .called) → IsName (d .called) → Writable (d .body) → Stands t C n i (d .body & gs) e → Went t C n (d .called ++ (code "=" ∷ (writeForm (d .body) ++ code ";" ∷ []))) gs e at r out out′
 
 pub record ProgramWalked (t C D : List ℕ) (defs r : ℕ) (out out′ : List ℕ) : Type 0 where
-  pub means : (n e : ℕ) (P : Prog) → Holds t C D defs n e P → marksOfProgram P ≤ 32 → Wrote (writeProgram P) 0 r out out′
+  pub means : (n e : ℕ) (P : Prog) → Holds t C D defs n e P → marksOfProgram P ≤ markLimit → Wrote (writeProgram P) 0 r out out′
 
 pub record TextMeasured (t C D : List ℕ) (defs r : ℕ) : Type 0 where
-  pub means : (n e : ℕ) (P : Prog) → Holds t C D defs n e P → marksOfProgram P ≤ 32 → r ≡ min (length (writeProgram P)) 16385
+  pub means : (n e : ℕ) (P : Prog) → Holds t C D defs n e P → marksOfProgram P ≤ markLimit → r ≡ min (length (writeProgram P)) (suc writtenLimit)
 
 -- the marks need no name
 pub record ProgramDepth (t C : List ℕ) (defs r : ℕ) : Type 0 where
-  pub means : (n e : ℕ) (P : Prog) → n < 4294967296 → e ≤ 2048 → length P ≡ defs → Stands t C n 0 (bodies P) e → r ≡ min (marksOfProgram P) 33
+  pub means : (n e : ℕ) (P : Prog) → n < 4294967296 → e ≤ formLimit → length P ≡ defs → Stands t C n 0 (bodies P) e → r ≡ min (marksOfProgram P) (suc markLimit)
 
 -- ---- the calls
 -- The length of the text up to 16,385, where no 33rd mark opens; the marks up to 33, for which the names don't matter.
 pub record ProgramMeasured (t C D : List ℕ) (defs : ℕ) (r : Measured) : Type 0 where
-  pub size : (n e : ℕ) (P : Prog) → Holds t C D defs n e P → marksOfProgram P ≤ 32 → r .length ≡ min (length (writeProgram P)) 16385
-  pub marks : (n e : ℕ) (P : Prog) → n < 4294967296 → e ≤ 2048 → length P ≡ defs → Stands t C n 0 (bodies P) e → r .marks ≡ min (marksOfProgram P) 33
+  pub size : (n e : ℕ) (P : Prog) → Holds t C D defs n e P → marksOfProgram P ≤ markLimit → r .length ≡ min (length (writeProgram P)) (suc writtenLimit)
+  pub marks : (n e : ℕ) (P : Prog) → n < 4294967296 → e ≤ formLimit → length P ≡ defs → Stands t C n 0 (bodies P) e → r .marks ≡ min (marksOfProgram P) (suc markLimit)
 
 -- All of the text stands in front and the rest of the output is as it was; or nothing has changed.
 pub data Outcome (text : List ℕ) (r : Written) (out out′ : List ℕ) : Type 0 where
-  done : length text ≤ min (length out) 16384 → r ≡ W.Done (length text) → out′ ≡ text ++ drop (length text) out → Outcome text r out out′
-  no-room : min (length out) 16384 < length text → r ≡ W.Short → out′ ≡ out → Outcome text r out out′
+  done : length text ≤ min (length out) writtenLimit → r ≡ W.Done (length text) → out′ ≡ text ++ drop (length text) out → Outcome text r out out′
+  no-room : min (length out) writtenLimit < length text → r ≡ W.Short → out′ ≡ out → Outcome text r out out′
 
 pub record ProgramWritten (t C D : List ℕ) (defs : ℕ) (r : Written) (out out′ : List ℕ) : Type 0 where
-  pub fits : (l : ℕ) → r ≡ W.Done l → l ≤ min (length out) 16384
-  pub means : (n e : ℕ) (P : Prog) → Holds t C D defs n e P → marksOfProgram P ≤ 32 → Outcome (writeProgram P) r out out′
+  pub fits : (l : ℕ) → r ≡ W.Done l → l ≤ min (length out) writtenLimit
+  pub means : (n e : ℕ) (P : Prog) → Holds t C D defs n e P → marksOfProgram P ≤ markLimit → Outcome (writeProgram P) r out out′

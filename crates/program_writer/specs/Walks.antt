@@ -4,6 +4,7 @@ use Prim.Native.Char.{code}
 use mathlib.Core.Path.{_≡_}
 use mathlib.Core.List.{List}
 use lib.ListN.{length}
+use Rattle.language.specs.Numbers.{formLimit, markLimit, writtenLimit}
 use Rattle.language.specs.Objects.{Obj}
 use Rattle.language.specs.Forms.{Form, Forms, stop, _&_, _+&_, count}
 use Rattle.language.specs.Accepted.{IsName, IsForm}
@@ -23,14 +24,14 @@ pub record Behind (at n r : ℕ) : Type 0 where
 -- A walk over a text from `at` up to r. Where it is within 16,384 bytes and the output has room for it, it stands there.
 pub record Wrote (text : List ℕ) (at r : ℕ) (out out′ : List ℕ) : Type 0 where
   pub place : min r 16385 ≡ min (at + length text) 16385
-  pub stands : at + length text ≤ 16384 → at + length text ≤ length out → out′ ≡ put out at text
+  pub stands : at + length text ≤ writtenLimit → at + length text ≤ length out → out′ ≡ put out at text
 
 pub record NameWalked (v at r : ℕ) (out out′ : List ℕ) : Type 0 where
   pub means : (w : List ℕ) → IsName w → v ≡ packed w → Wrote w at r out out′
 
 -- an object that opens no 33rd mark
 pub record ConstantWalked (C : List ℕ) (v : Val) (at r : ℕ) (out out′ : List ℕ) : Type 0 where
-  pub means : (n : ℕ) (x : Obj) → n < 4294967296 → marksOfObj x ≤ 32 → Rep C n v x → Wrote (writeObj x) at r out out′
+  pub means : (n : ℕ) (x : Obj) → n < 4294967296 → marksOfObj x ≤ markLimit → Rep C n v x → Wrote (writeObj x) at r out out′
 
 -- ---- the marks of each kind of form
 pub record MarkBehind (k left r : ℕ) : Type 0 where
@@ -62,7 +63,7 @@ pub record OpeningMark (k r : ℕ) : Type 0 where
 -- ---- forms that can be written: their names unpack, and their objects open no 33rd mark
 pub record Writable (f : Form) : Type 0 where
   pub good : IsForm f
-  pub few : marksOf f ≤ 32
+  pub few : marksOf f ≤ markLimit
 
 pub data AllWritable : Forms → Type 0 where
   none-more : AllWritable stop
@@ -89,13 +90,13 @@ pub record Went (t C : List ℕ) (n : ℕ) (text : List ℕ) (fs : Forms) (e at 
 
 pub record FormWalked (t C : List ℕ) (i at : ℕ) (r : Way) (out out′ : List ℕ) : Type 0 where
   pub ahead : i ≤ r .next
-  pub means : (n e : ℕ) (f : Form) (gs : Forms) → n < 4294967296 → e ≤ 2048 → Writable f → Stands t C n i (f & gs) e → Went t C n (writeForm f) gs e at r out out′
+  pub means : (n e : ℕ) (f : Form) (gs : Forms) → n < 4294967296 → e ≤ formLimit → Writable f → Stands t C n i (f & gs) e → Went t C n (writeForm f) gs e at r out out′
 
 -- a part of a form of kind k
 pub record PartWalked (t C : List ℕ) (k i at : ℕ) (r : Way) (out out′ : List ℕ) : Type 0 where
   pub ahead : i ≤ r .next
-  pub means : (n e j : ℕ) (g f : Form) (gs : Forms) → n < 4294967296 → e ≤ 2048 → k ≡ kindAt t j → Row t C n j g → Writable f → Stands t C n i (f & gs) e → Went t C n (partText g f) gs e at r out out′
+  pub means : (n e j : ℕ) (g f : Form) (gs : Forms) → n < 4294967296 → e ≤ formLimit → k ≡ kindAt t j → Row t C n j g → Writable f → Stands t C n i (f & gs) e → Went t C n (partText g f) gs e at r out out′
 
 pub record PartsWalked (t C : List ℕ) (k arity i at : ℕ) (r : Way) (out out′ : List ℕ) : Type 0 where
   pub ahead : i ≤ r .next
-  pub means : (n e j : ℕ) (g : Form) (fs gs : Forms) → n < 4294967296 → e ≤ 2048 → k ≡ kindAt t j → Row t C n j g → arity ≡ count fs → AllWritable fs → Stands t C n i (fs +& gs) e → Went t C n (partsText g fs) gs e at r out out′
+  pub means : (n e j : ℕ) (g : Form) (fs gs : Forms) → n < 4294967296 → e ≤ formLimit → k ≡ kindAt t j → Row t C n j g → arity ≡ count fs → AllWritable fs → Stands t C n i (fs +& gs) e → Went t C n (partsText g fs) gs e at r out out′

@@ -4,6 +4,7 @@ use mathlib.Core.Bool.{cond, _||_, not}
 use mathlib.Core.List.{List}
 use lib.Dec.{ltb, eqb}
 use lib.ListN.{length}
+use Rattle.language.specs.Numbers.{programLimit, objectLimit, definitionLimit, formTableSize, one}
 use Rattle.language.specs.Objects.{Obj, cellsOf}
 use Rattle.language.specs.Forms.{Prog, formsOf}
 use Rattle.language.specs.Reading.{Got, got, no, readObject, readProgram}
@@ -23,10 +24,10 @@ objectAnswer (no number place) = joined number place
 unfoldable pub programCall : List ℕ → (forms definitions : ℕ) → ℕ
 programCall s forms definitions =
     let read = programAnswer (readProgram s) in
-    cond (ltb 8192 (length s)) (joined 1 0) (cond (not (eqb forms 8192)) (joined 5 0) (cond (not (eqb definitions 512)) (joined 5 0) read))
+    cond (ltb programLimit (length s)) (joined 1 0) (cond (not (eqb forms formTableSize)) (joined 5 0) (cond (not (eqb definitions (4 * definitionLimit))) (joined 5 0) read))
 
 -- 2 for a text that is too long; else what is read
 unfoldable pub objectCall : List ℕ → ℕ
 objectCall s =
     let read = objectAnswer (readObject s) in
-    cond (ltb 16384 (length s)) (joined 2 0) read
+    cond (ltb objectLimit (length s)) (joined 2 0) read

@@ -5,7 +5,7 @@ use mathlib.Core.List.{List}
 use mathlib.Core.Option.{some}
 use lib.ListN.{length}
 use Rattle.language.specs.Forms.{Prog, formsOf, programCells}
-use Rattle.language.specs.Numbers.{markLimit}
+use Rattle.language.specs.Numbers.{markLimit, programLimit}
 use Rattle.language.specs.Reading.{got, readProgram}
 use Rattle.language.specs.Writing.{writeProgram, marksOfProgram}
 use Rattle.language.specs.Laws.{Law}
@@ -29,4 +29,4 @@ UsesAccepted = (l : Law) (i : ℕ) (P Q : Prog) → Accepted P → applyLaw l i 
 
 -- 8,192 bytes hold at most 4,093 cells of constants, so that 13 can't occur in a law call.
 abbrev pub FewConstants : Type 0
-FewConstants = (s : List ℕ) (P : Prog) (e : ℕ) → length s ≤ 8192 → readProgram s ≡ got P e → programCells P ≤ 4093
+FewConstants = (s : List ℕ) (P : Prog) (e : ℕ) → length s ≤ programLimit → readProgram s ≡ got P e → programCells P ≤ 4093

@@ -6,7 +6,7 @@ use mathlib.Core.Option.{some}
 use lib.ListN.{length}
 use Rattle.language.specs.Objects.{Obj}
 use Rattle.language.specs.Forms.{Prog}
-use Rattle.language.specs.Numbers.{markLimit}
+use Rattle.language.specs.Numbers.{markLimit, programLimit, one}
 use Rattle.language.specs.Reading.{got, no, readObj, readObject, readDefinitions, readProgram, calls}
 use Rattle.language.specs.Writing.{writeObj, writeProgram, marksOfObj}
 use Rattle.language.specs.Uses.{applyLaw}
@@ -47,7 +47,7 @@ ProgramsRead = (s : List ℕ) (P : Prog) (e : ℕ) → readProgram s ≡ got P e
 abbrev pub AcceptedMeans : Type 0
 AcceptedMeans =
     (P : Prog)
-    → (Accepted P → WellFormed P × (length (writeProgram P) ≤ 8192)) × (WellFormed P → length (writeProgram P) ≤ 8192 → Accepted P)
+    → (Accepted P → WellFormed P × (length (writeProgram P) ≤ programLimit)) × (WellFormed P → length (writeProgram P) ≤ programLimit → Accepted P)
 
 -- Every program that reading accepts, and every result of a law used on one, is read from what is written of it.
 abbrev pub AcceptedReadBack : Type 0

@@ -5,6 +5,7 @@ use Prim.Native.String.{String}
 use mathlib.Core.Path.{_≡_}
 use mathlib.Core.List.{List, [], _∷_, map}
 use lib.ListN.{take, replicate}
+use Rattle.language.specs.Numbers.{stepLimit, formTableSize, cellTableSize, one}
 use Rattle.language.specs.Bytes.{bytes}
 use Rattle.language.specs.declared.Meter.{Meter}
 use Rattle.language.specs.declared.Answer.{Answer}
@@ -20,7 +21,7 @@ pub record Row : Type 0 where
 
 -- the answer of a run with an output buffer of 64 bytes, and the text written
 abbrev pub lent : Meter → Lent
-lent b = record { forms = replicate 8192 0; cells = replicate (4 * b .cells) 0; output = replicate 64 0 }
+lent b = record { forms = replicate formTableSize 0; cells = replicate (cellTableSize (b .cells)) 0; output = replicate 64 0 }
 
 pub record Seen : Type 0 where
   pub answer : Answer
@@ -33,7 +34,7 @@ abbrev pub stated : Row → Seen
 stated r = record { answer = r .answer; text = bytes (r .text) }
 
 abbrev pub usual : Meter
-usual = record { steps = 1000000; names = 8; cells = 64 }
+usual = record { steps = stepLimit; names = 8; cells = 64 }
 
 abbrev pub says : (number steps cells length : ℕ) → Answer
 says n s c l = record { number = n; place = 0; text = 0; steps = s; cells = c; length = l }
@@ -43,7 +44,7 @@ starred =
     record { program = "main=/add.@mul.trans;"; object = "<<2,3>,<5,7>>"; budgets = usual; answer = says 20 8 16 2; text = "31" }
     ∷ record { program = "main=last;last=(null.tl->1;last.tl);"; object = "<4,7>"; budgets = usual; answer = says 20 14 2 1; text = "7" }
     ∷ record { program = "main=last;last=(null.tl->1;last.tl);"; object = "<4,7>"; budgets = record { steps = 13; names = 8; cells = 64 }; answer = says 22 13 2 0; text = "" }
-    ∷ record { program = "main=last;last=(null.tl->1;last.tl);"; object = "<4,7>"; budgets = record { steps = 1000000; names = 2; cells = 64 }; answer = says 23 9 2 0; text = "" }
+    ∷ record { program = "main=last;last=(null.tl->1;last.tl);"; object = "<4,7>"; budgets = record { steps = stepLimit; names = 2; cells = 64 }; answer = says 23 9 2 0; text = "" }
     ∷ record { program = ""; object = "A"; budgets = usual; answer = says 21 1 0 0; text = "" }
     ∷ record { program = "main=id;"; object = "<>"; budgets = usual; answer = says 20 2 0 2; text = "<>" }
     ∷ record { program = "main=1.[id,zap];"; object = "5"; budgets = usual; answer = says 21 5 0 0; text = "" }

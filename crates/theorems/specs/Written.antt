@@ -3,6 +3,7 @@ use Prim.Native.Nat.{ℕ, _*_, _≤_}
 use mathlib.Core.Path.{_≡_}
 use mathlib.Core.List.{List}
 use lib.ListN.{length, take}
+use Rattle.language.specs.Numbers.{stepLimit, cellLimit, formTableSize, nameLimit, cellTableSize}
 use Rattle.language.specs.declared.Meter.{Meter}
 use Rattle.language.specs.declared.Answer.{Answer}
 use Rattle.language.specs.Bytes.{bytes}
@@ -31,13 +32,13 @@ WrittenReadsBack =
 -- budgets and buffers that are enough for `main=id;` on a text t of the object y
 pub record EnoughFor (y : Obj) (t : List ℕ) (b : Meter) (lent : Lent) : Type 0 where
   pub steps : 2 ≤ b .steps
-  pub stepsWithin : b .steps ≤ 1000000
+  pub stepsWithin : b .steps ≤ stepLimit
   pub names : 1 ≤ b .names
-  pub namesWithin : b .names ≤ 256
+  pub namesWithin : b .names ≤ nameLimit
   pub cells : cellsOf y ≤ b .cells
-  pub cellsWithin : b .cells ≤ 4096
-  pub formTable : length (lent .forms) ≡ 8192
-  pub cellTable : length (lent .cells) ≡ 4 * b .cells
+  pub cellsWithin : b .cells ≤ cellLimit
+  pub formTable : length (lent .forms) ≡ formTableSize
+  pub cellTable : length (lent .cells) ≡ cellTableSize (b .cells)
   pub output : length t ≤ length (lent .output)
 
 -- `main=id;` on such a text answers 20 and writes it again, with two steps and the object's cells.
