@@ -21,7 +21,7 @@ use Rattle.language.specs.Laws.{Law}
 use Rattle.language.specs.Uses.{applyLaw, lawNumbered, simplify}
 use Rattle.language.specs.Answers.{Lent, Outcome, bare, at, counting, untouched, unwritten, written, roomIn, scanned, ended, onRead, runCall, rewritten, used, usedLaw, withProgram, lawCall, simplifyCall}
 use Rattle.theorems.specs.ReadBack.{Refusal}
-use Rattle.theorems.specs.AnswerTable.{isOneOf, Table, runTable, lawTable, simplifyTable, withPlace, withText, withLength, touchNothing, SixNumbers, Buffers, FromTable, RunFromTable, LawFromTable, SimplifyFromTable}
+use Rattle.theorems.specs.AnswerTable.{isOneOf, Table, runTable, lawTable, simplifyTable, withPlace, withText, ofProgram, withLength, touchNothing, SixNumbers, Buffers, FromTable, RunFromTable, LawFromTable, SimplifyFromTable}
 use Rattle.theorems.proofs.Outcomes as Outcomes
 use Rattle.theorems.proofs.Outcomes.{no-meets, meets-then, meets-cond}
 use Rattle.theorems.proofs.Refusals.{objects-refused, programs-refused, definitions-within, Reads as Within}
@@ -63,20 +63,21 @@ no-way′ h = absurd (false≢true h)
 
 module _ (t : Table) (lent : Lent) where
   -- 1 to 5
-  bare-numbers : (n : ℕ) → isOneOf n (t .numbers) ≡ true → isOneOf n withText ≡ false → SixNumbers t (bare n)
-  bare-numbers n h k = record {
+  bare-numbers : (n : ℕ) → isOneOf n (t .numbers) ≡ true → isOneOf n withText ≡ false → isOneOf n ofProgram ≡ false → SixNumbers t (bare n)
+  bare-numbers n h k g = record {
     number = h;
     place = λ i. refl;
     text = λ i. no-way (sym i ∙ k);
+    programText = λ i. no-way (sym i ∙ g);
     noText = λ i. refl;
     steps = λ i. refl;
     cells = λ i. refl;
     length = λ i. refl;
   }
 
-  from-untouched : (n : ℕ) → isOneOf n (t .numbers) ≡ true → isOneOf n withText ≡ false → isOneOf n touchNothing ≡ true → isOneOf n withLength ≡ false → FromTable t lent (untouched n lent)
-  from-untouched n h k u l = record {
-    numbers = bare-numbers n h k;
+  from-untouched : (n : ℕ) → isOneOf n (t .numbers) ≡ true → isOneOf n withText ≡ false → isOneOf n ofProgram ≡ false → isOneOf n touchNothing ≡ true → isOneOf n withLength ≡ false → FromTable t lent (untouched n lent)
+  from-untouched n h k g u l = record {
+    numbers = bare-numbers n h k g;
     buffers = record { untouched = λ i. refl; zeroed = λ i. no-way (sym u ∙ i); unwritten = λ i. refl; written = λ i. no-way (sym i ∙ l) };
   }
 
@@ -87,16 +88,17 @@ module _ (t : Table) (lent : Lent) where
     buffers = record { untouched = λ i. no-way (sym i ∙ u); zeroed = λ i. record { forms = refl; cells = refl }; unwritten = λ i. refl; written = λ i. no-way (sym i ∙ l) };
   }
 
-  from-bare : (n : ℕ) → isOneOf n (t .numbers) ≡ true → isOneOf n withText ≡ false → isOneOf n touchNothing ≡ false → isOneOf n withLength ≡ false → FromTable t lent (unwritten lent (bare n))
-  from-bare n h k u l = from-unwritten (bare n) (bare-numbers n h k) u l
+  from-bare : (n : ℕ) → isOneOf n (t .numbers) ≡ true → isOneOf n withText ≡ false → isOneOf n ofProgram ≡ false → isOneOf n touchNothing ≡ false → isOneOf n withLength ≡ false → FromTable t lent (unwritten lent (bare n))
+  from-bare n h k g u l = from-unwritten (bare n) (bare-numbers n h k g) u l
 
   -- an answer that carries steps, and cells unless they are 0
-  from-counting : (n s c : ℕ) → isOneOf n (t .numbers) ≡ true → isOneOf n withText ≡ false → isOneOf n (t .withSteps) ≡ true → (isOneOf n (t .withCells) ≡ false → c ≡ 0) → isOneOf n touchNothing ≡ false → isOneOf n withLength ≡ false → FromTable t lent (unwritten lent (counting n s c 0))
-  from-counting n s c h k p q u l =
+  from-counting : (n s c : ℕ) → isOneOf n (t .numbers) ≡ true → isOneOf n withText ≡ false → isOneOf n ofProgram ≡ false → isOneOf n (t .withSteps) ≡ true → (isOneOf n (t .withCells) ≡ false → c ≡ 0) → isOneOf n touchNothing ≡ false → isOneOf n withLength ≡ false → FromTable t lent (unwritten lent (counting n s c 0))
+  from-counting n s c h k g p q u l =
       from-unwritten (counting n s c 0) (record {
         number = h;
         place = λ i. refl;
         text = λ i. no-way (sym i ∙ k);
+        programText = λ i. no-way (sym i ∙ g);
         noText = λ i. refl;
         steps = λ i. no-way (sym p ∙ i);
         cells = q;
@@ -110,6 +112,7 @@ module _ (t : Table) (lent : Lent) where
       number = h;
       place = λ i. refl;
       text = λ i. no-way′ i;
+      programText = λ i. no-way′ i;
       noText = λ i. refl;
       steps = λ i. no-way (sym p ∙ i);
       cells = q;
@@ -128,12 +131,13 @@ module _ (t : Table) (lent : Lent) where
   from-cond false f g = g refl
 
   -- a refusal of a text
-  from-refused : (n p k : ℕ) → isOneOf n (t .numbers) ≡ true → isOneOf k (t .texts) ≡ true → isOneOf n withText ≡ true → (isOneOf n withPlace ≡ false → p ≡ 0) → isOneOf n touchNothing ≡ false → isOneOf n withLength ≡ false → FromTable t lent (unwritten lent (at n p k))
-  from-refused n p k h r x q u l =
+  from-refused : (n p k : ℕ) → isOneOf n (t .numbers) ≡ true → isOneOf k (t .texts) ≡ true → isOneOf n withText ≡ true → (isOneOf n ofProgram ≡ true → k ≡ 1) → (isOneOf n withPlace ≡ false → p ≡ 0) → isOneOf n touchNothing ≡ false → isOneOf n withLength ≡ false → FromTable t lent (unwritten lent (at n p k))
+  from-refused n p k h r x g q u l =
       from-unwritten (at n p k) (record {
         number = h;
         place = q;
         text = λ i. r;
+        programText = g;
         noText = λ i. no-way (sym x ∙ i);
         steps = λ i. refl;
         cells = λ i. refl;
@@ -180,20 +184,20 @@ record Reads (t : Table) (k : ℕ) : Type 0 where
   has10 : isOneOf 10 (t .numbers) ≡ true
   has11 : isOneOf 11 (t .numbers) ≡ true
 
-from-refusal : (t : Table) (lent : Lent) (n p k : ℕ) → Reads t k → Refused n → TenAtZero n p → FromTable t lent (unwritten lent (at n p k))
-from-refusal t lent n p k r six z = from-refused t lent 6 p k (r .has6) (r .text) refl (λ i. no-way i) refl refl
-from-refusal t lent n p k r seven z = from-refused t lent 7 p k (r .has7) (r .text) refl (λ i. no-way i) refl refl
-from-refusal t lent n p k r eight z = from-refused t lent 8 p k (r .has8) (r .text) refl (λ i. no-way i) refl refl
-from-refusal t lent n p k r nine z = from-refused t lent 9 p k (r .has9) (r .text) refl (λ i. no-way i) refl refl
-from-refusal t lent n p k r ten z = from-refused t lent 10 p k (r .has10) (r .text) refl (λ i. z refl) refl refl
-from-refusal t lent n p k r eleven z = from-refused t lent 11 p k (r .has11) (r .text) refl (λ i. no-way i) refl refl
+from-refusal : (t : Table) (lent : Lent) (n p k : ℕ) → Reads t k → Refused n → (10 ≤ n → k ≡ 1) → TenAtZero n p → FromTable t lent (unwritten lent (at n p k))
+from-refusal t lent n p k r six o z = from-refused t lent 6 p k (r .has6) (r .text) refl (λ i. no-way′ i) (λ i. no-way i) refl refl
+from-refusal t lent n p k r seven o z = from-refused t lent 7 p k (r .has7) (r .text) refl (λ i. no-way′ i) (λ i. no-way i) refl refl
+from-refusal t lent n p k r eight o z = from-refused t lent 8 p k (r .has8) (r .text) refl (λ i. no-way′ i) (λ i. no-way i) refl refl
+from-refusal t lent n p k r nine o z = from-refused t lent 9 p k (r .has9) (r .text) refl (λ i. no-way′ i) (λ i. no-way i) refl refl
+from-refusal t lent n p k r ten o z = from-refused t lent 10 p k (r .has10) (r .text) refl (λ i. o (omega arith)) (λ i. z refl) refl refl
+from-refusal t lent n p k r eleven o z = from-refused t lent 11 p k (r .has11) (r .text) refl (λ i. o (omega arith)) (λ i. no-way i) refl refl
 
 from-program : (t : Table) (lent : Lent) (s : List ℕ) (f : Prog → Outcome) → Reads t 1 → ((P : Prog) → FromTable t lent (f P)) → FromTable t lent (onRead lent 1 (readProgram s) f)
 from-program t lent s f r g = go (readProgram s) refl
   where
     go : (q : Got Prog) → readProgram s ≡ q → FromTable t lent (onRead lent 1 q f)
     go (got P e) u = g P
-    go (no n p) u = let R = programs-refused s n p u in from-refusal t lent n p 1 r (refused-is n (R .low) (R .high)) (ten-at-zero s n p u)
+    go (no n p) u = let R = programs-refused s n p u in from-refusal t lent n p 1 r (refused-is n (R .low) (R .high)) (λ l. refl) (ten-at-zero s n p u)
 
 from-object : (t : Table) (lent : Lent) (s : List ℕ) (f : Obj → Outcome) → Reads t 2 → ((x : Obj) → FromTable t lent (f x)) → FromTable t lent (onRead lent 2 (readObject s) f)
 from-object t lent s f r g = go (readObject s) refl
@@ -202,7 +206,7 @@ from-object t lent s f r g = go (readObject s) refl
     go (got x e) u = g x
     go (no n p) u =
         let R = objects-refused s n p u in
-        from-refusal t lent n p 2 r (refused-is n (R .low) (omega (arith, R .high))) (λ e. absurd (omega (arith, R .high)))
+        from-refusal t lent n p 2 r (refused-is n (R .low) (omega (arith, R .high))) (λ l. absurd (omega (arith, R .high))) (λ e. absurd (omega (arith, R .high)))
 
 -- ---- a run
 
@@ -211,25 +215,25 @@ run-reads k h = record { text = h; has6 = refl; has7 = refl; has8 = refl; has9 =
 
 from-scan : (lent : Lent) (s c : ℕ) (x : Obj) (w : Scan) → scan (writeObj x) 0 (roomIn lent) ≡ w → FromTable runTable lent (scanned lent s c x w)
 from-scan lent s c x (on o r) h = let l = scan-length (writeObj x) 0 (roomIn lent) o r h in from-written runTable lent s c (writeObj x) refl refl (λ i. no-way i) (omega arith)
-from-scan lent s c x short h = from-counting runTable lent 25 s c refl refl refl (λ i. no-way i) refl refl
-from-scan lent s c x deep h = from-counting runTable lent 26 s c refl refl refl (λ i. no-way i) refl refl
+from-scan lent s c x short h = from-counting runTable lent 25 s c refl refl refl refl (λ i. no-way i) refl refl
+from-scan lent s c x deep h = from-counting runTable lent 26 s c refl refl refl refl (λ i. no-way i) refl refl
 
 from-end : (lent : Lent) (r : RunEnd) → FromTable runTable lent (ended lent r)
 from-end lent (done x s c) = from-scan lent s c x (scan (writeObj x) 0 (roomIn lent)) refl
-from-end lent (fell s c) = from-counting runTable lent 21 s c refl refl refl (λ i. no-way i) refl refl
-from-end lent (ranOut noStep s c) = from-counting runTable lent 22 s c refl refl refl (λ i. no-way i) refl refl
-from-end lent (ranOut noName s c) = from-counting runTable lent 23 s c refl refl refl (λ i. no-way i) refl refl
-from-end lent (ranOut noCell s c) = from-counting runTable lent 24 s c refl refl refl (λ i. no-way i) refl refl
-from-end lent tooFew = from-bare runTable lent 13 refl refl refl refl
+from-end lent (fell s c) = from-counting runTable lent 21 s c refl refl refl refl (λ i. no-way i) refl refl
+from-end lent (ranOut noStep s c) = from-counting runTable lent 22 s c refl refl refl refl (λ i. no-way i) refl refl
+from-end lent (ranOut noName s c) = from-counting runTable lent 23 s c refl refl refl refl (λ i. no-way i) refl refl
+from-end lent (ranOut noCell s c) = from-counting runTable lent 24 s c refl refl refl refl (λ i. no-way i) refl refl
+from-end lent tooFew = from-bare runTable lent 13 refl refl refl refl refl
 
 pub run-from-table : RunFromTable
 unfolding runCall
 run-from-table s x b lent =
-    from-cond runTable lent (ltb 8192 (length s)) (from-untouched runTable lent 1 refl refl refl refl) (λ t.
-    from-cond runTable lent (ltb 16384 (length x)) (from-untouched runTable lent 2 refl refl refl refl) (λ t.
-    from-cond runTable lent (ltb 1000000 (b .steps)) (from-untouched runTable lent 3 refl refl refl refl) (λ t.
-    from-cond runTable lent (ltb 256 (b .names)) (from-untouched runTable lent 4 refl refl refl refl) (λ t.
-    from-cond runTable lent (ltb 4096 (b .cells) || not (eqb (length (lent .forms)) 8192) || not (eqb (length (lent .cells)) (4 * b .cells))) (from-untouched runTable lent 5 refl refl refl refl) (λ t.
+    from-cond runTable lent (ltb 8192 (length s)) (from-untouched runTable lent 1 refl refl refl refl refl) (λ t.
+    from-cond runTable lent (ltb 16384 (length x)) (from-untouched runTable lent 2 refl refl refl refl refl) (λ t.
+    from-cond runTable lent (ltb 1000000 (b .steps)) (from-untouched runTable lent 3 refl refl refl refl refl) (λ t.
+    from-cond runTable lent (ltb 256 (b .names)) (from-untouched runTable lent 4 refl refl refl refl refl) (λ t.
+    from-cond runTable lent (ltb 4096 (b .cells) || not (eqb (length (lent .forms)) 8192) || not (eqb (length (lent .cells)) (4 * b .cells))) (from-untouched runTable lent 5 refl refl refl refl refl) (λ t.
     from-program runTable lent s _ (run-reads 1 refl) (λ P. from-object runTable lent x _ (run-reads 2 refl) (λ y. from-end lent (run one P y b))))))))
 
 -- ---- the laws and the simplifier
@@ -250,12 +254,12 @@ module _ (t : Table) (R : Rewrites t) (lent : Lent) where
     where
       go : (u : Bool) → leb (length (writeProgram Q)) (roomIn lent) ≡ u → FromTable t lent (cond u (written lent uses 0 (writeProgram Q)) (unwritten lent (counting 25 uses 0 0)))
       go true h = let l = leb-true (length (writeProgram Q)) (roomIn lent) h in from-written t lent uses 0 (writeProgram Q) (R .done) (R .doneSteps) (λ i. refl) (omega arith)
-      go false h = from-counting t lent 25 uses 0 (R .long) refl (R .longSteps) (λ i. refl) refl refl
+      go false h = from-counting t lent 25 uses 0 (R .long) refl refl (R .longSteps) (λ i. refl) refl refl
 
   from-call : (s : List ℕ) (f : Prog → Outcome) → ((P : Prog) → FromTable t lent (f P)) → FromTable t lent (withProgram s lent f)
   from-call s f g =
-      from-cond t lent (ltb 8192 (length s)) (from-untouched t lent 1 (R .one) refl refl refl) (λ u.
-      from-cond t lent (not (eqb (length (lent .forms)) 8192) || not (eqb (length (lent .cells)) 16384)) (from-untouched t lent 5 (R .five) refl refl refl) (λ v.
+      from-cond t lent (ltb 8192 (length s)) (from-untouched t lent 1 (R .one) refl refl refl refl) (λ u.
+      from-cond t lent (not (eqb (length (lent .forms)) 8192) || not (eqb (length (lent .cells)) 16384)) (from-untouched t lent 5 (R .five) refl refl refl refl) (λ v.
       from-program t lent s f (R .reads) g))
 
 law-rewrites : Rewrites lawTable
@@ -265,11 +269,11 @@ simplify-rewrites : Rewrites simplifyTable
 simplify-rewrites = record { one = refl; five = refl; reads = record { text = refl; has6 = refl; has7 = refl; has8 = refl; has9 = refl; has10 = refl; has11 = refl }; done = refl; doneSteps = refl; long = refl; longSteps = refl }
 
 from-used : (lent : Lent) (o : Option Prog) → FromTable lawTable lent (used lent o)
-from-used lent none = from-bare lawTable lent 14 refl refl refl refl
+from-used lent none = from-bare lawTable lent 14 refl refl refl refl refl
 from-used lent (some Q) = from-rewritten lawTable law-rewrites lent 1 Q
 
 from-law : (lent : Lent) (i : ℕ) (P : Prog) (o : Option Law) → FromTable lawTable lent (usedLaw lent i P o)
-from-law lent i P none = from-bare lawTable lent 15 refl refl refl refl
+from-law lent i P none = from-bare lawTable lent 15 refl refl refl refl refl
 from-law lent i P (some l) = from-used lent (applyLaw l i P)
 
 pub law-from-table : LawFromTable

@@ -46,12 +46,15 @@ simplifyTable = record {
   withCells = [];
 }
 
--- 6 to 9 and 11 carry place and text, 10 carries text; only 20 has a length; 1 to 5 touch nothing.
+-- 6 to 9 and 11 carry place and text, 10 carries text; 10 and 11 are a program's; only 20 has a length; 1 to 5 touch nothing.
 abbrev pub withPlace : List ℕ
 withPlace = 6 ∷ 7 ∷ 8 ∷ 9 ∷ 11 ∷ []
 
 abbrev pub withText : List ℕ
 withText = 6 ∷ 7 ∷ 8 ∷ 9 ∷ 10 ∷ 11 ∷ []
+
+abbrev pub ofProgram : List ℕ
+ofProgram = 10 ∷ 11 ∷ []
 
 abbrev pub withLength : List ℕ
 withLength = 20 ∷ []
@@ -64,6 +67,7 @@ pub record SixNumbers (t : Table) (a : Answer) : Type 0 where
   pub number : isOneOf (a .number) (t .numbers) ≡ true
   pub place : isOneOf (a .number) withPlace ≡ false → a .place ≡ 0
   pub text : isOneOf (a .number) withText ≡ true → isOneOf (a .text) (t .texts) ≡ true
+  pub programText : isOneOf (a .number) ofProgram ≡ true → a .text ≡ 1
   pub noText : isOneOf (a .number) withText ≡ false → a .text ≡ 0
   pub steps : isOneOf (a .number) (t .withSteps) ≡ false → a .steps ≡ 0
   pub cells : isOneOf (a .number) (t .withCells) ≡ false → a .cells ≡ 0
