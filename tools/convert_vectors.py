@@ -2,11 +2,13 @@
 """Turns outside vectors (one JSON object a line, texts in hex) into the binary files that the programs read.
 
     tools/convert_vectors.py runs FILE.jsonl > crates/vectors/data/run.cases
+    tools/convert_vectors.py wrong FILE.jsonl > crates/vectors/data/wrong.cases
     tools/convert_vectors.py texts DIR > crates/reread/data/texts.cases
 
 A run case is thirteen 32-bit numbers, the lowest byte first (lengths of program, object and text; steps, names, cells; the
-output's length; the six numbers of the answer), then program, object and text. A text case is two numbers (1 program or 2
-object; the length), then the text.
+output's length; the six numbers of the answer), then program, object and text. In front of a wrong case stand three numbers
+more: the table (0 none, 1 output, 2 forms, 3 cells), the place there and the value that is expected at it. A text case is two
+numbers (1 program or 2 object; the length), then the text.
 """
 import json
 import struct
@@ -17,15 +19,66 @@ def numbers(*ns):
     return struct.pack('<%dI' % len(ns), *ns)
 
 
+def run_case(case, answer, text):
+    program = bytes.fromhex(case['program'])
+    object_ = bytes.fromhex(case['object'])
+    head = numbers(len(program), len(object_), len(text), case['steps'], case['names'], case['cells'],
+                   case['out_len'], *answer)
+    return head + program + object_ + text
+
+
 def run_cases(path):
     for line in open(path):
         case = json.loads(line)
-        program = bytes.fromhex(case['program'])
-        object_ = bytes.fromhex(case['object'])
-        text = bytes.fromhex(case['output'] or '')
-        head = numbers(len(program), len(object_), len(text), case['steps'], case['names'], case['cells'],
-                       case['out_len'], *case['answer'])
-        yield head + program + object_ + text
+        yield run_case(case, case['answer'], bytes.fromhex(case['output'] or ''))
+
+
+OUTPUT, FORMS, CELLS = 1, 2, 3
+
+
+def wrong_cases(path):
+    """Cases of which one thing is wrong each, and two that are right: a run that is done, a refusal that leaves the tables
+    zero, and one that touches nothing."""
+    cases = [json.loads(line) for line in open(path)]
+
+    def first(fits):
+        return next(c for c in cases if len(c['program']) < 200 and fits(c, c['answer']))
+
+    def changed(case, answer=None, text=None, entry=(0, 0, 0)):
+        right = bytes.fromhex(case['output'] or '')
+        return numbers(*entry) + run_case(case, answer or case['answer'], right if text is None else text)
+
+    done = first(lambda c, a: a[0] == 20 and a[5] > 4 and a[4] > 0 and 4 < c['cells'] < 4096 and c['out_len'] < 16384)
+    refused = first(lambda c, a: a[0] == 6 and a[1] > 0 and 4 < c['cells'] < 4096)
+    untouched = first(lambda c, a: a[0] == 3 and 0 < c['cells'] <= 4096)
+    text = bytes.fromhex(done['output'])
+    yield changed(done)
+    for i in range(6):
+        for more in (1, 65536):
+            answer = list(done['answer'])
+            answer[i] += more
+            yield changed(done, answer)
+    yield changed(done, text=bytes([text[0] + 1]) + text[1:])
+    yield changed(done, text=text[:-1] + bytes([text[-1] + 1]))
+    yield changed(done, text=text[:-1])
+    yield changed(done, text=text + b'0')
+    for place in (0, len(text) - 1, len(text), done['out_len'] - 1, done['out_len'], 19999):
+        yield changed(done, entry=(OUTPUT, place, 0))
+    for case, other in ((done, 1), (refused, 7), (untouched, 0)):
+        lent = 4 * case['cells']
+        yield changed(case, entry=(OUTPUT, 9, 57))
+        for table, places in ((FORMS, (0, 1, 8191)), (CELLS, (0, 1, lent - 1))):
+            for place in places:
+                yield changed(case, entry=(table, place, other))
+        for place in (lent, 16399):
+            yield changed(case, entry=(CELLS, place, 0))
+    answer = list(refused['answer'])
+    answer[1] += 1
+    yield changed(refused, answer)
+    answer[1:3] = refused['answer'][1], 3 - answer[2]
+    yield changed(refused, answer)
+    yield changed(untouched, [5] + untouched['answer'][1:])
+    yield changed(refused)
 
 
 def made_texts():
@@ -77,12 +130,13 @@ def text_cases(folder):
 
 
 def main():
-    if len(sys.argv) != 3 or sys.argv[1] not in ('runs', 'texts'):
+    if len(sys.argv) != 3 or sys.argv[1] not in ('runs', 'wrong', 'texts'):
         sys.exit(__doc__)
     out = sys.stdout.buffer
     if sys.argv[1] == 'runs':
-        for case in run_cases(sys.argv[2]):
-            out.write(case)
+        out.writelines(run_cases(sys.argv[2]))
+    elif sys.argv[1] == 'wrong':
+        out.writelines(wrong_cases(sys.argv[2]))
     else:
         for kind, data in text_cases(sys.argv[2]):
             out.write(numbers(kind, len(data)) + data)
