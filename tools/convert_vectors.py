@@ -4,11 +4,12 @@
     tools/convert_vectors.py runs FILE.jsonl > crates/vectors/data/run.cases
     tools/convert_vectors.py wrong FILE.jsonl > crates/vectors/data/wrong.cases
     tools/convert_vectors.py texts DIR > crates/reread/data/texts.cases
+    tools/convert_vectors.py short > crates/reread/data/short.cases
 
 A run case is thirteen 32-bit numbers, the lowest byte first (lengths of program, object and text; steps, names, cells; the
 output's length; the six numbers of the answer), then program, object and text. In front of a wrong case stand three numbers
 more: the table (0 none, 1 output, 2 forms, 3 cells), the place there and the value that is expected at it. A text case is two
-numbers (1 program or 2 object; the length), then the text.
+numbers (1 program or 2 object; the length), then the text. A short case has a third number, how many bytes may be written.
 """
 import json
 import struct
@@ -112,6 +113,28 @@ def made_texts():
         yield 1, b'f=' + word + b';'
 
 
+def short_cases():
+    """Texts with just enough room for what is written, and with one byte less; the longest text that is looked at; and at
+    the end a text that is cut short, of which nothing may be printed."""
+    for kind, text, written in (
+        (1, b' main = ( id . tl ) ; ', b'main=id.tl;'),
+        (1, b'abcdefghijkl=(null.(tl)->[1,2r];{add,-7});', b'abcdefghijkl=(null.tl->[1,2r];{add,-7});'),
+        (1, b'a=%<A,<1,-2>>;b=/add.@(mul.rotl);c=(a?b);', b'a=%<A,<1,-2>>;b=/add.@(mul.rotl);c=(a?b);'),
+        (2, b' < A , <> , -2147483648 > ', b'<A,<>,-2147483648>'),
+        (2, b'ABCDEFGHIJKL', b'ABCDEFGHIJKL'),
+        (2, b' 7 ', b'7'),
+    ):
+        for room in (len(written), len(written) - 1, 1, 0):
+            yield kind, room, text
+    yield 1, 0, b''
+    yield 1, 0, b' \n'
+    yield 2, 16384, b'<' + b','.join([b'1'] * 8191) + b'>'
+    yield 2, 16382, b'<' + b','.join([b'1'] * 8191) + b'>'
+    yield 2, 0, b'007'
+    yield 1, 16384, b' ' * 65536
+    yield 2, 16384, b'<>'
+
+
 def text_cases(folder):
     seen = {}
     for name, kinds in (('run', (('program', 1), ('object', 2))), ('law', (('program', 1),)), ('simplify', (('program', 1),))):
@@ -130,10 +153,14 @@ def text_cases(folder):
 
 
 def main():
-    if len(sys.argv) != 3 or sys.argv[1] not in ('runs', 'wrong', 'texts'):
-        sys.exit(__doc__)
     out = sys.stdout.buffer
-    if sys.argv[1] == 'runs':
+    if sys.argv[1:] == ['short']:
+        for kind, room, data in short_cases():
+            out.write(numbers(kind, len(data), room) + data)
+        out.write(numbers(1, 9, 16384) + b'f=id;')
+    elif len(sys.argv) != 3 or sys.argv[1] not in ('runs', 'wrong', 'texts'):
+        sys.exit(__doc__)
+    elif sys.argv[1] == 'runs':
         out.writelines(run_cases(sys.argv[2]))
     elif sys.argv[1] == 'wrong':
         out.writelines(wrong_cases(sys.argv[2]))
