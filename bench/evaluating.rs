@@ -1,6 +1,11 @@
-//! The proved evaluator beside the plain Rust reference, in one process: nanoseconds a run and the ratio. Each case is run by
-//! both, in turns, and the two must agree in all six numbers and the text. bench/run-evaluating builds and runs it.
+//! The proved run call beside two in Rust, in one process: the plain one of reference.rs and the strong one of strong/. Each case is
+//! run by all three, in turns; they must agree in all six numbers and the text. bench/run-evaluating builds and runs it.
+mod cases;
 mod reference;
+mod strong;
+
+use cases::Case;
+use std::hint::black_box;
 use std::time::Instant;
 
 extern "C" {
@@ -11,22 +16,21 @@ extern "C" {
     );
 }
 
-struct Case {
-    name: &'static str,
-    program: String,
-    object: String,
-    budgets: [u32; 3],
-    runs: usize,
+/// The tables and the output that a caller lends.
+struct Lent {
+    forms: Vec<u32>,
+    cells: Vec<u32>,
+    output: Vec<u8>,
 }
 
-fn proved(case: &Case, forms: &mut [u32], cells: &mut [u32], output: &mut [u8]) -> [u32; 6] {
+fn proved(case: &Case, l: &mut Lent) -> [u32; 6] {
     let mut answer = [0u32; 6];
-    let [steps, names, cell_budget] = case.budgets;
-    let table = &mut cells[..4 * cell_budget as usize];
+    let [steps, names, cells] = case.budgets;
+    let table = &mut l.cells[..4 * cells as usize];
     unsafe {
         nattglod_run(
-            case.program.as_ptr(), case.program.len(), case.object.as_ptr(), case.object.len(), steps, names, cell_budget,
-            forms.as_mut_ptr(), forms.len(), table.as_mut_ptr(), table.len(), output.as_mut_ptr(), output.len(),
+            case.program.as_ptr(), case.program.len(), case.object.as_ptr(), case.object.len(), steps, names, cells,
+            l.forms.as_mut_ptr(), l.forms.len(), table.as_mut_ptr(), table.len(), l.output.as_mut_ptr(), l.output.len(),
             answer.as_mut_ptr(), answer.len(),
         );
     }
@@ -38,101 +42,67 @@ fn plain(case: &Case) -> ([u32; 6], Vec<u8>) {
     reference::run(case.program.as_bytes(), case.object.as_bytes(), steps, names, cells, 16384)
 }
 
-fn sequence(places: impl IntoIterator<Item = String>) -> String {
-    format!("<{}>", places.into_iter().collect::<Vec<_>>().join(","))
+fn strong(case: &Case, l: &mut Lent) -> [u32; 6] {
+    let [steps, names, cells] = case.budgets;
+    let table = &mut l.cells[..4 * cells as usize];
+    strong::run(case.program.as_bytes(), case.object.as_bytes(), steps, names, cells, &mut l.forms, table, &mut l.output)
 }
 
-fn matrix(n: i32, f: impl Fn(i32, i32) -> i32) -> String {
-    sequence((0..n).map(|i| sequence((0..n).map(|j| f(i, j).to_string()))))
+/// The answer of all three, which must agree.
+fn agreed(case: &Case, l: &mut Lent) -> [u32; 6] {
+    let (answer, text) = plain(case);
+    for (who, run) in [("proved", proved as fn(&Case, &mut Lent) -> [u32; 6]), ("strong", strong)] {
+        assert_eq!(run(case, l), answer, "{}, {who}", case.name);
+        assert_eq!(&l.output[..text.len()], &text[..], "{}, {who}", case.name);
+    }
+    answer
 }
 
-/// Four tens, each from its largest down: 001's selection sort, with the least found by an insert, since 001's own way needs
-/// more than 4,096 cells for 40 numbers.
-fn sorting() -> Case {
-    let numbers = (0..40).map(|i| (i / 10 * 10 + 9 - i % 10).to_string());
-    Case {
-        name: "selection sort of 40",
-        program: "main=sort;least=/(lt->1;2);delete=(eq.[1,1.2]->tl.2;apndl.[1.2,delete.[1,tl.2]]);\
-                  sort=(null->id;apndl.[1,sort.delete].[least,id]);".into(),
-        object: sequence(numbers),
-        budgets: [100000, 256, 4096],
-        runs: 400,
+fn time(runs: usize, mut run: impl FnMut()) -> f64 {
+    let start = Instant::now();
+    for _ in 0..runs {
+        run();
+    }
+    start.elapsed().as_nanos() as f64 / runs as f64
+}
+
+/// Nanoseconds of one run: proved, plain and strong. Each is the least of so many rounds, which are taken in turns.
+fn measured(case: &Case, rounds: usize, l: &mut Lent) -> [f64; 3] {
+    let mut least = [f64::MAX; 3];
+    for _ in 0..rounds {
+        least[0] = least[0].min(time(case.runs, || _ = black_box(proved(black_box(case), l))));
+        least[1] = least[1].min(time(case.runs, || _ = black_box(plain(black_box(case)))));
+        least[2] = least[2].min(time(case.runs, || _ = black_box(strong(black_box(case), l))));
+    }
+    least
+}
+
+fn print_calls(l: &mut Lent) {
+    println!("{:<30} {:>3} {:>7} {:>10} {:>10} {:>10} {:>8} {:>8}", "microseconds a call", "", "steps", "proved", "plain", "strong", "/ plain", "/ strong");
+    for case in cases::calls() {
+        let answer = agreed(&case, l);
+        let [a, b, c] = measured(&case, 100, l);
+        println!(
+            "{:<30} {:>3} {:>7} {:>10.2} {:>10.2} {:>10.2} {:>8.2} {:>8.2}",
+            case.name, answer[0], answer[3], a / 1000.0, b / 1000.0, c / 1000.0, a / b, a / c
+        );
     }
 }
 
-/// A school day: when the child sleeps, and what is planned from when to when. Homework is always open.
-fn bedtime() -> Case {
-    Case {
-        name: "bedtime rule on a day",
-        program: "main=@plan.distl.[bed,3];bed=2;plan=(homework->open;(late->shut;(allowed->open;shut)));\
-                  homework=eq.[3.2,%HOMEWORK];late=lt.[1,2.2];allowed=not.or.[eq.[3.2,%SCHOOL],eq.[3.2,%DINNER]];\
-                  open=apndl.[%OPEN,tlr.2];shut=apndl.[%SHUT,tlr.2];".into(),
-        object: "<TUE,1260,<<420,480,BREAKFAST>,<480,900,SCHOOL>,<930,990,HOMEWORK>,<990,1080,PLAY>,<1080,1140,DINNER>,\
-                 <1140,1200,HOMEWORK>,<1200,1290,PLAY>,<1290,1320,HOMEWORK>>>".into(),
-        budgets: [10000, 16, 1024],
-        runs: 4000,
+fn print_long_steps(l: &mut Lent) {
+    println!("\n{:<30} {:>3} {:>7} {:>10} {:>10} {:>10} {:>8} {:>8}", "nanoseconds a step", "", "steps", "proved", "plain", "strong", "/ plain", "/ strong");
+    for case in cases::long_steps() {
+        let answer = agreed(&case, l);
+        let [a, b, c] = measured(&case, 10, l).map(|t| t / answer[3] as f64);
+        println!("{:<30} {:>3} {:>7} {:>10.1} {:>10.1} {:>10.1} {:>8.2} {:>8.2}", case.name, answer[0], answer[3], a, b, c, a / b, a / c);
     }
-}
-
-fn cases() -> Vec<Case> {
-    vec![
-        Case {
-            name: "matrix multiply, 8 by 8",
-            program: "main=@@ip.@distl.distr.[1,trans.2];ip=/add.@mul.trans;".into(),
-            object: sequence([matrix(8, |i, j| (i * 7 + j * 3) % 19 - 9), matrix(8, |i, j| (i * 5 + j * 11) % 23 - 11)]),
-            budgets: [100000, 8, 4096],
-            runs: 1000,
-        },
-        sorting(),
-        Case {
-            name: "a name 200 deep",
-            program: "main=(null->%0;add.[%1,main.tl]);".into(),
-            object: sequence((0..199).map(|_| "7".to_string())),
-            budgets: [100000, 256, 4096],
-            runs: 1000,
-        },
-        Case {
-            name: "a while of 100,000 rounds",
-            program: "main=(lt?id);".into(),
-            object: "<1,2>".into(),
-            budgets: [200002, 8, 4096],
-            runs: 20,
-        },
-        bedtime(),
-    ]
-}
-
-/// The least time of five rounds each, taken in turns.
-fn measure(case: &Case, forms: &mut [u32], cells: &mut [u32], output: &mut [u8]) {
-    let answer = proved(case, forms, cells, output);
-    let (expected, text) = plain(case);
-    assert_eq!(answer, expected, "{}", case.name);
-    assert_eq!(&output[..answer[5] as usize], &text[..], "{}", case.name);
-    let mut least = [f64::MAX; 2];
-    for _ in 0..5 {
-        let start = Instant::now();
-        for _ in 0..case.runs {
-            std::hint::black_box(proved(case, forms, cells, output));
-        }
-        least[0] = least[0].min(start.elapsed().as_nanos() as f64 / case.runs as f64);
-        let start = Instant::now();
-        for _ in 0..case.runs {
-            std::hint::black_box(plain(case));
-        }
-        least[1] = least[1].min(start.elapsed().as_nanos() as f64 / case.runs as f64);
-    }
-    println!(
-        "{:<26} {:>3} {:>7} steps {:>10.0} ns proved {:>10.0} ns plain Rust, ratio {:.2}",
-        case.name, answer[0], answer[3], least[0], least[1], least[0] / least[1]
-    );
 }
 
 fn main() {
     let work = || {
-        let (mut forms, mut cells, mut output) = (vec![0u32; 8192], vec![0u32; 16384], vec![0u8; 16384]);
-        for case in cases() {
-            measure(&case, &mut forms, &mut cells, &mut output);
-        }
+        let mut l = Lent { forms: vec![0; 8192], cells: vec![0; 16384], output: vec![0; 16384] };
+        print_calls(&mut l);
+        print_long_steps(&mut l);
     };
     std::thread::Builder::new().stack_size(64 << 20).spawn(work).unwrap().join().unwrap();
 }

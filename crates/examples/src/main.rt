@@ -1,8 +1,11 @@
 // Prints the name of each example of data/examples.txt, and what fprun replies to it. An example is four lines: a name, the
-// budgets, the program and the object.
+// budgets, the program and the object. Then the same of data/inputs.cases, where inputs of every shape stand.
 ghost use Prim.Native.Nat.{_≤_};
 ghost use lib.ListN.{length};
 ghost use Rattle.examples.specs.Ahead.{Ahead};
+
+mod inputs;
+mod printing;
 
 // The place behind the line that starts at `from`.
 fn behind_line(s: &[u8], from: usize) -> usize
@@ -19,16 +22,6 @@ fn behind_line(s: &[u8], from: usize) -> usize
     i
 }
 
-fn print(text: &[u8]) {
-    io::write_all(libc::STDOUT_FILENO, text);
-}
-
-fn print_reply(input: &[u8]) {
-    let mut out = replies::reply();
-    let r = replies::answer_input(input, &mut out);
-    print(&out[..r]);
-}
-
 // Prints the example that starts at `from`, and gives the place behind it.
 fn print_example(s: &[u8], from: usize) -> usize
     requires { ⌜ from ≤ length (now s) ⌝ }
@@ -38,8 +31,8 @@ fn print_example(s: &[u8], from: usize) -> usize
     let program = behind_line(s, budgets);
     let object = behind_line(s, program);
     let end = behind_line(s, object);
-    print(&s[from..budgets]);
-    print_reply(&s[budgets..end]);
+    printing::print(&s[from..budgets]);
+    printing::print_reply(&s[budgets..end]);
     end
 }
 
@@ -50,14 +43,29 @@ fn print_all(s: &[u8]) {
     }
 }
 
-fn main() {
-    let fd = os::open_read(b"examples.txt");
+fn print_examples(path: &[u8]) {
+    let fd = os::open_read(path);
     if fd < 0 {
-        os::fail(b"examples.txt");
+        os::fail(path);
         return;
     }
     let mut text = io::large_buffer();
     let n = io::read_full(fd, &mut text);
     libc::close(fd);
     print_all(&text[..n]);
+}
+
+fn print_inputs(path: &[u8]) {
+    let fd = os::open_read(path);
+    if fd < 0 {
+        os::fail(path);
+        return;
+    }
+    inputs::print_all(fd);
+    libc::close(fd);
+}
+
+fn main() {
+    print_examples(b"examples.txt");
+    print_inputs(b"inputs.cases");
 }

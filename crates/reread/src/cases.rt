@@ -1,6 +1,6 @@
 // The cases of a file, one after the other.
 ghost use mathlib.Core.Path.{_≡_};
-ghost use Prim.Native.Nat.{_<_};
+ghost use Prim.Native.Nat.{_<_, _≤_};
 ghost use lib.ListN.{length};
 use super::Reread;
 use super::lines;
@@ -46,6 +46,26 @@ fn number(b0: u8, b1: u8, b2: u8, b3: u8) -> u64
     wide(b0) + 256 * wide(b1) + 65536 * wide(b2) + 16777216 * wide(b3)
 }
 
+// The number in the next four bytes of the file; 2^32 if it has no four any more.
+fn read_number(fd: i32) -> u64 {
+    let mut b = [0u8; 4];
+    if io::read_full(fd, &mut b) < 4 {
+        return 4294967296;
+    }
+    number(b[0], b[1], b[2], b[3])
+}
+
+// How much of the output may be written: all of it, or what the case says.
+fn read_room(fd: i32, short: bool) -> usize
+    ensures { λ r. ⌜ r ≤ 16384 ⌝ }
+{
+    if !short {
+        return 16384;
+    }
+    let n = read_number(fd);
+    if n < 16384 { n as usize } else { 16384 }
+}
+
 // Rereads a text of this kind, and prints its line.
 fn reread_text(kind: u64, count: u64, text: &[u8], out: &mut [u8]) {
     let mut cells = cell_table();
@@ -62,13 +82,10 @@ fn reread_text(kind: u64, count: u64, text: &[u8], out: &mut [u8]) {
 
 // Reads the next case and prints its line; false at the end of the file, and for a text that is cut short or over 65,536
 // bytes.
-fn reread_next(fd: i32, count: u64) -> bool {
-    let mut head = [0u8; 8];
-    if io::read_full(fd, &mut head) < 8 {
-        return false;
-    }
-    let kind = number(head[0], head[1], head[2], head[3]);
-    let size = number(head[4], head[5], head[6], head[7]) as usize;
+fn reread_next(fd: i32, short: bool, count: u64) -> bool {
+    let kind = read_number(fd);
+    let size = read_number(fd) as usize;
+    let room = read_room(fd, short);
     if 65536 < size {
         return false;
     }
@@ -77,14 +94,14 @@ fn reread_next(fd: i32, count: u64) -> bool {
     if io::read_full(fd, &mut text[..size]) < size {
         return false;
     }
-    reread_text(kind, count, &text[..size], &mut out);
+    reread_text(kind, count, &text[..size], &mut out[..room]);
     true
 }
 
 // Every case, counted from 1.
-pub fn reread_all(fd: i32) {
+pub fn reread_all(fd: i32, short: bool) {
     let mut count: u64 = 1;
-    while count < 4294967296 && reread_next(fd, count) {
+    while count < 4294967296 && reread_next(fd, short, count) {
         count += 1;
     }
 }

@@ -1,6 +1,15 @@
-// Cases as tools/convert_vectors.py writes them: thirteen numbers of 32 bits, the lowest byte first, and three texts.
+// Cases as tools/convert_vectors.py writes them: thirteen numbers of 32 bits, the lowest byte first, and three texts. In
+// front of a wrong case stand three numbers more: the entry that it expects to be another.
 ghost use Prim.Native.Nat.{_≤_};
 use language::Answer;
+
+// One entry that is expected to be this value, whatever is expected around it: of the output (1), of the form table (2), of
+// the cell table (3); or none (0).
+pub struct Entry {
+    pub table: u32,
+    pub place: u32,
+    pub value: u32,
+}
 
 // The lengths of the three texts, the budgets, the output's length, and the answer.
 pub struct Case {
@@ -36,6 +45,22 @@ fn read_answer(s: &[u8]) -> Answer {
         steps: number(s, 10),
         cells: number(s, 11),
         length: number(s, 12),
+    }
+}
+
+pub fn no_entry() -> Entry {
+    Entry {
+        table: 0,
+        place: 0,
+        value: 0,
+    }
+}
+
+pub fn read_entry(s: &[u8]) -> Entry {
+    Entry {
+        table: number(s, 0),
+        place: number(s, 1),
+        value: number(s, 2),
     }
 }
 

@@ -3,54 +3,82 @@ ghost use Prim.Native.Nat.{_≤_};
 ghost use lib.ListN.{length};
 use crate::buffers;
 use crate::cases::Case;
+use crate::cases::Entry;
 use crate::printing;
 use language::Answer;
 
-// Whether the numbers from `from` up to `to` are all v.
-fn numbers_are(t: &[u32], from: usize, to: usize, v: u32) -> bool {
+// Where a case is not as expected: in a number of its answer (1 to 6, in the answer table's order), in the output (7), in the
+// form table (8), in the cells lent (9) or behind them (10); and the place there. 0 if nowhere.
+pub struct Difference {
+    pub field: u32,
+    pub place: usize,
+}
+
+// What entry i of a table has to be, where all are v but the one that the case names.
+fn expected_entry(e: Entry, table: u32, i: usize, v: u32) -> u32 {
+    if e.table != table {
+        return v;
+    }
+    if e.place as usize != i {
+        return v;
+    }
+    e.value
+}
+
+// The first number from `from` up to `to` that is not as expected; `to` if there is none.
+fn first_other(t: &[u32], from: usize, to: usize, v: u32, e: Entry, table: u32) -> usize {
     let mut i = from;
     while i < to {
-        if tables::at(t, i) != v {
-            return false;
+        if tables::at(t, i) != expected_entry(e, table, i, v) {
+            return i;
         }
         i += 1;
     }
-    true
+    i
 }
 
-// Whether the text stands in front, and 9 in every byte behind it.
-fn is_output(out: &[u8], text: &[u8]) -> bool {
+fn wide(b: u8) -> u32 {
+    b as u32
+}
+
+// The text stands in front, and 9 in every byte behind it.
+fn expected_byte(text: &[u8], i: usize) -> u32 {
+    if i < text.len() { wide(text[i]) } else { 9 }
+}
+
+// The first byte of the output that is not as expected; its length if there is none.
+fn first_other_byte(out: &[u8], text: &[u8], e: Entry) -> usize {
     let mut i = 0;
     while i < out.len() {
-        if out[i] != expected(text, i) {
-            return false;
+        if wide(out[i]) != expected_entry(e, 1, i, expected_byte(text, i)) {
+            return i;
         }
         i += 1;
     }
-    true
+    i
 }
 
-fn expected(text: &[u8], i: usize) -> u8 {
-    if i < text.len() { text[i] } else { 9 }
-}
-
-fn same_answer(a: Answer, b: Answer) -> bool {
+// The first of the six numbers that differs, counted from 1; 0 if none does.
+fn differing_number(a: Answer, b: Answer) -> u32 {
     if a.number != b.number {
-        return false;
+        return 1;
     }
     if a.place != b.place {
-        return false;
+        return 2;
     }
     if a.text != b.text {
-        return false;
+        return 3;
     }
     if a.steps != b.steps {
-        return false;
+        return 4;
     }
     if a.cells != b.cells {
-        return false;
+        return 5;
     }
-    a.length == b.length
+    if a.length != b.length {
+        return 6;
+    }
+    0
 }
 
 // What stands in the tables afterwards: 1 to 5 touch nothing, after all others they are zero.
@@ -96,37 +124,72 @@ fn call(
     )
 }
 
-// Whether the answer and all that stands in the buffers are as the case expects.
-fn agrees(c: Case, text: &[u8], a: Answer, forms: &[u32], table: &[u32], output: &[u8]) -> bool {
+// Where the tables are not as the case expects.
+fn table_difference(c: Case, e: Entry, forms: &[u32], table: &[u32]) -> Difference {
     let wanted = c.answer;
-    let n = cells_lent(c.cells);
     let v = left_in_tables(wanted.number);
-    if !same_answer(wanted, a) {
-        return false;
+    let form = first_other(forms, 0, 8192, v, e, 2);
+    if form < 8192 {
+        return Difference {
+            field: 8,
+            place: form,
+        };
     }
-    if !is_output(output, text) {
-        return false;
+    let n = cells_lent(c.cells);
+    let cell = first_other(table, 0, n, v, e, 3);
+    if cell < n {
+        return Difference {
+            field: 9,
+            place: cell,
+        };
     }
-    if !numbers_are(forms, 0, 8192, v) {
-        return false;
+    let behind = first_other(table, n, 16400, 7, e, 3);
+    if behind < 16400 {
+        return Difference {
+            field: 10,
+            place: behind,
+        };
     }
-    if !numbers_are(table, 0, n, v) {
-        return false;
+    Difference { field: 0, place: 0 }
+}
+
+// Where the answer or what stands in the buffers is not as the case expects.
+fn first_difference(
+    c: Case,
+    e: Entry,
+    text: &[u8],
+    a: Answer,
+    forms: &[u32],
+    table: &[u32],
+    output: &[u8],
+) -> Difference {
+    let wanted = c.answer;
+    let field = differing_number(wanted, a);
+    if field != 0 {
+        return Difference { field, place: 0 };
     }
-    numbers_are(table, n, 16400, 7)
+    let byte = first_other_byte(output, text, e);
+    if byte < output.len() {
+        return Difference {
+            field: 7,
+            place: byte,
+        };
+    }
+    table_difference(c, e, forms, table)
 }
 
 // Runs case k, and gives 1 if all agrees and else 0.
-fn compare(c: Case, program: &[u8], object: &[u8], text: &[u8], k: u64) -> u64 {
+fn compare(c: Case, e: Entry, program: &[u8], object: &[u8], text: &[u8], k: u64) -> u64 {
     let mut forms = buffers::form_table();
     let mut table = buffers::cell_table();
     let mut output = buffers::output();
     let a = call(c, program, object, &mut forms, &mut table, &mut output);
-    if agrees(c, text, a, &forms, &table, &output) {
+    let d = first_difference(c, e, text, a, &forms, &table, &output);
+    if d.field == 0 {
         return 1;
     }
     let wanted = c.answer;
-    printing::print_wrong(k, wanted, a)
+    printing::print_difference(k, d, wanted, a)
 }
 
 // Reads the next n bytes of the file to the front of the buffer.
@@ -137,7 +200,7 @@ fn read_text(fd: i32, buf: &mut [u8], n: usize)
 }
 
 // Reads the three texts of case k, and runs it.
-pub fn run_case(fd: i32, c: Case, k: u64) -> u64 {
+pub fn run_case(fd: i32, c: Case, e: Entry, k: u64) -> u64 {
     let mut program = buffers::text();
     let mut object = buffers::text();
     let mut text = buffers::text();
@@ -147,5 +210,5 @@ pub fn run_case(fd: i32, c: Case, k: u64) -> u64 {
     read_text(fd, &mut program, p);
     read_text(fd, &mut object, o);
     read_text(fd, &mut text, t);
-    compare(c, &program[..p], &object[..o], &text[..t], k)
+    compare(c, e, &program[..p], &object[..o], &text[..t], k)
 }

@@ -1,5 +1,5 @@
 // Runs the cases of data/run.cases, which another implementation of document 01 answered, and compares every number, byte
-// and table entry.
+// and table entry. Those of data/wrong.cases expect one thing each that is not so: each has to be found to differ, there.
 mod buffers;
 mod cases;
 mod comparing;
@@ -16,20 +16,31 @@ struct Tally {
     good: u64,
 }
 
-fn run_next(fd: i32, k: u64) -> Next {
+// Reads the entry in front of a wrong case; in front of another there is none.
+fn next_entry(fd: i32, wrong: bool) -> cases::Entry {
+    if !wrong {
+        return cases::no_entry();
+    }
+    let mut head = [0u8; 12];
+    io::read_full(fd, &mut head);
+    cases::read_entry(&head)
+}
+
+fn run_next(fd: i32, wrong: bool, k: u64) -> Next {
+    let e = next_entry(fd, wrong);
     let mut head = [0u8; 52];
     let n = io::read_full(fd, &mut head);
     if n < 52 {
         return Next::End;
     }
-    Next::Ran(comparing::run_case(fd, cases::read_case(&head), k))
+    Next::Ran(comparing::run_case(fd, cases::read_case(&head), e, k))
 }
 
-fn run_all(fd: i32) -> Tally {
+fn run_all(fd: i32, wrong: bool) -> Tally {
     let mut all: u64 = 0;
     let mut good: u64 = 0;
     while all < 1000000 {
-        let k = match run_next(fd, all) {
+        let k = match run_next(fd, wrong, all) {
             Next::End => return Tally { all, good },
             Next::Ran(k) => k,
         };
@@ -39,13 +50,18 @@ fn run_all(fd: i32) -> Tally {
     Tally { all, good }
 }
 
-fn main() {
-    let fd = os::open_read(b"run.cases");
+fn run_file(path: &[u8], wrong: bool) {
+    let fd = os::open_read(path);
     if fd < 0 {
-        os::fail(b"run.cases");
+        os::fail(path);
         return;
     }
-    let t = run_all(fd);
+    let t = run_all(fd, wrong);
     libc::close(fd);
     printing::print_tally(t.all, t.good);
+}
+
+fn main() {
+    run_file(b"run.cases", false);
+    run_file(b"wrong.cases", true);
 }

@@ -6,16 +6,16 @@ use Rattle.vectors.proofs.run_all.Statement.{statement}
 use Rattle.vectors.proofs.run_all.Tie as tie
 
 abbrev Inv-loop : tie.InvT-loop
-Inv-loop fd all₀ good₀ all good = all ≤ 1000000
+Inv-loop fd wrong all₀ good₀ all good = all ≤ 1000000
 
 abbrev μ-loop : tie.MeasureT-loop
-μ-loop fd all₀ good₀ all good = 1000000 - all
+μ-loop fd wrong all₀ good₀ all good = 1000000 - all
 
 -- while all < 1000000 {
 loop-holds : tie.Need-loop-holds Inv-loop μ-loop
 loop-holds c = search needs
 
--- let k = match run_next(fd, all) {
+-- let k = match run_next(fd, wrong, all) {
 run-next-requires : tie.Need-run-next-requires Inv-loop μ-loop
 run-next-requires c κs = search needs
 
@@ -47,7 +47,7 @@ loop-less c = search needs
 loop-again : tie.Need-loop-again Inv-loop μ-loop
 loop-again c = search needs
 
--- fn run_all(fd: i32) -> Tally {
+-- fn run_all(fd: i32, wrong: bool) -> Tally {
 returns-2 : tie.Need-returns-2 Inv-loop μ-loop
 returns-2 c = search needs
 

@@ -5,10 +5,10 @@ use Rattle.reread.proofs.cases.reread_all.Statement.{statement}
 use Rattle.reread.proofs.cases.reread_all.Tie as tie
 
 abbrev Inv-loop : tie.InvT-loop
-Inv-loop fd count₀ count = count ≤ 4294967296
+Inv-loop fd short count₀ count = count ≤ 4294967296
 
 abbrev μ-loop : tie.MeasureT-loop
-μ-loop fd count₀ count = 4294967296 - count
+μ-loop fd short count₀ count = 4294967296 - count
 
 pub reread-all-spec : {M : Type 1} → statement M
 reread-all-spec =

@@ -9,28 +9,19 @@ pub reread-next-spec : {M : Type 1} → statement M
 reread-next-spec =
     tie.close
     (tie.spec
-    (λ c. search needs)  -- slice-aggregate-read-full
-    (λ c κs. search needs)  -- read-full-requires
+    (λ c κs. search needs)  -- read-number-requires
+    (λ c κs. search needs)  -- read-number-requires-2
+    (λ c κs. search needs)  -- read-room-requires
     (λ c. search needs)  -- returns
-    (λ c. search needs)  -- array-read-number
-    (λ c. search needs)  -- array-read-number-2
-    (λ c. search needs)  -- array-read-number-3
-    (λ c. search needs)  -- array-read-number-4
-    (λ c κs. search needs)  -- number-requires
-    (λ c. search needs)  -- array-read-number-5
-    (λ c. search needs)  -- array-read-number-6
-    (λ c. search needs)  -- array-read-number-7
-    (λ c. search needs)  -- array-read-number-8
-    (λ c κs. search needs)  -- number-requires-2
-    (λ c. search needs)  -- returns-2
     (λ c κs. search needs)  -- large-buffer-requires
     (λ c κs. search needs)  -- output-requires
     (λ c. search needs)  -- array-borrow-prefix-text
-    (λ c. simp length-take (omega arith))  -- slice-aggregate-read-full-2
-    (λ c κs. search needs)  -- read-full-requires-2
-    (λ c. search needs)  -- returns-3
-    (λ c. simp (length-append, length-drop) (omega (arith, simp length-take at (c .before .before .read-full2 .kept .1 .0))))  -- array-share-prefix-text
-    (λ c. simp (length-take, length-append, length-drop) (omega (arith, simp length-take at (c .before .before .before .read-full2 .kept .1 .0))))  -- slice-aggregate-reread-text
-    (λ c. search needs)  -- slice-aggregate-reread-text-2
+    (λ c. simp length-take (omega arith))  -- slice-aggregate-read-full
+    (λ c κs. search needs)  -- read-full-requires
+    (λ c. search needs)  -- returns-2
+    (λ c. simp (length-append, length-drop) (omega (arith, simp length-take at (c .before .before .read-full .kept .1 .0))))  -- array-share-prefix-text
+    (λ c. simp (length-take, length-append, length-drop) (omega (arith, simp length-take at (c .before .before .before .read-full .kept .1 .0))))  -- slice-aggregate-reread-text
+    (λ c. search needs)  -- array-borrow-prefix-out
+    (λ c. simp length-take (omega arith))  -- slice-aggregate-reread-text-2
     (λ c κs. search needs)  -- reread-text-requires
-    (λ c. search needs))  -- returns-4
+    (λ c. search needs))  -- returns-3

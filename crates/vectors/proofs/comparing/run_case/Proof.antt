@@ -53,35 +53,35 @@ slice-aggregate-read-text-3 c = search needs
 read-text-requires-3 : tie.Need-read-text-requires-3
 read-text-requires-3 c κs = search needs
 
--- compare(c, &program[..p], &object[..o], &text[..t], k)
+-- compare(c, e, &program[..p], &object[..o], &text[..t], k)
 array-share-prefix-program : tie.Need-array-share-prefix-program
 array-share-prefix-program c = search needs
 
--- compare(c, &program[..p], &object[..o], &text[..t], k)
+-- compare(c, e, &program[..p], &object[..o], &text[..t], k)
 slice-aggregate-compare : tie.Need-slice-aggregate-compare
 slice-aggregate-compare c = simp length-take (omega arith)
 
--- compare(c, &program[..p], &object[..o], &text[..t], k)
+-- compare(c, e, &program[..p], &object[..o], &text[..t], k)
 array-share-prefix-object : tie.Need-array-share-prefix-object
 array-share-prefix-object c = search needs
 
--- compare(c, &program[..p], &object[..o], &text[..t], k)
+-- compare(c, e, &program[..p], &object[..o], &text[..t], k)
 slice-aggregate-compare-2 : tie.Need-slice-aggregate-compare-2
 slice-aggregate-compare-2 c = simp length-take (omega arith)
 
--- compare(c, &program[..p], &object[..o], &text[..t], k)
+-- compare(c, e, &program[..p], &object[..o], &text[..t], k)
 array-share-prefix-text : tie.Need-array-share-prefix-text
 array-share-prefix-text c = search needs
 
--- compare(c, &program[..p], &object[..o], &text[..t], k)
+-- compare(c, e, &program[..p], &object[..o], &text[..t], k)
 slice-aggregate-compare-3 : tie.Need-slice-aggregate-compare-3
 slice-aggregate-compare-3 c = simp length-take (omega arith)
 
--- compare(c, &program[..p], &object[..o], &text[..t], k)
+-- compare(c, e, &program[..p], &object[..o], &text[..t], k)
 compare-requires : tie.Need-compare-requires
 compare-requires c κs = search needs
 
--- pub fn run_case(fd: i32, c: Case, k: u64) -> u64 {
+-- pub fn run_case(fd: i32, c: Case, e: Entry, k: u64) -> u64 {
 returns : tie.Need-returns
 returns c = search needs
 
