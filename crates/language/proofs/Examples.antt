@@ -1,8 +1,8 @@
 -- The definitions on examples, by computation.
-use Prim.Native.Nat.{ℕ, _*_}
+use Prim.Native.Nat.{ℕ, zero, suc, _*_}
 use Prim.Native.String.{String}
 use mathlib.Core.Path.{_≡_, refl}
-use mathlib.Core.List.{List, [], _∷_, map}
+use mathlib.Core.List.{List, [], _∷_, _++_, map}
 use lib.ListN.{take, replicate}
 use Rattle.language.specs.declared.Answer.{Answer}
 use Rattle.language.specs.declared.Meter.{Meter}
@@ -173,6 +173,22 @@ deepRuns = deepCase 64 26 ∷ deepCase 33 26 ∷ deepCase 32 26 ∷ deepCase 31 
 deep-answers : map runs deepRuns ≡ map (λ (r : RunCase). r .says) deepRuns
 unfolding runCall readProgram readDefinitions definitionAt withinLimits noneTwice isIn readForm afterPart afterParts afterForm afterTest readObject readObj atEnd afterObject insideSequence opens mark refused refusalOf judgeName judgePart wordForm judgeSelector judgeAtom judgeNegative judgeInteger valueFrom judgeWord dashSize sizeAt size placeFrom span digits decimal writeInteger writeObj scan
 deep-answers = refl
+
+-- Texts too long, and too many definitions.
+abbrev times : ℕ → List ℕ → List ℕ
+times zero s = []
+times (suc n) s = s ++ times n s
+
+abbrev numberOf : (program object : List ℕ) → ℕ
+numberOf program object = runCall program object (budget 100 8 4) (lentTables 4 8) .answer .number
+
+too-long : numberOf (times 8193 (bytes " ")) (bytes "A") ∷ numberOf [] (times 16385 (bytes " ")) ∷ [] ≡ 1 ∷ 2 ∷ []
+unfolding runCall
+too-long = refl
+
+too-many-definitions : readProgram (times 129 (bytes "a=id;")) ≡ no 10 0
+unfolding readProgram readDefinitions definitionAt withinLimits noneTwice isIn readForm afterPart afterParts afterForm afterTest readObj afterObject insideSequence opens mark refused refusalOf judgeName judgePart wordForm judgeSelector judgeAtom judgeNegative judgeInteger valueFrom judgeWord dashSize sizeAt size placeFrom span digits decimal writeInteger writeObj writeWord writeForm writeProgram
+too-many-definitions = refl
 
 -- ---- laws
 
