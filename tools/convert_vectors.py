@@ -37,48 +37,63 @@ def run_cases(path):
 OUTPUT, FORMS, CELLS = 1, 2, 3
 
 
-def wrong_cases(path):
-    """Cases of which one thing is wrong each, and two that are right: a run that is done, a refusal that leaves the tables
-    zero, and one that touches nothing."""
-    cases = [json.loads(line) for line in open(path)]
+def changed(case, answer=None, text=None, entry=(0, 0, 0)):
+    """The case, with another answer, text or entry expected."""
+    right = bytes.fromhex(case['output'] or '')
+    return numbers(*entry) + run_case(case, answer or case['answer'], right if text is None else text)
 
-    def first(fits):
-        return next(c for c in cases if len(c['program']) < 200 and fits(c, c['answer']))
 
-    def changed(case, answer=None, text=None, entry=(0, 0, 0)):
-        right = bytes.fromhex(case['output'] or '')
-        return numbers(*entry) + run_case(case, answer or case['answer'], right if text is None else text)
-
-    done = first(lambda c, a: a[0] == 20 and a[5] > 4 and a[4] > 0 and 4 < c['cells'] < 4096 and c['out_len'] < 16384)
-    refused = first(lambda c, a: a[0] == 6 and a[1] > 0 and 4 < c['cells'] < 4096)
-    untouched = first(lambda c, a: a[0] == 3 and 0 < c['cells'] <= 4096)
-    text = bytes.fromhex(done['output'])
-    yield changed(done)
+def wrong_numbers(done, refused, untouched):
+    """Each of the six numbers, in its low bits and above them."""
     for i in range(6):
         for more in (1, 65536):
             answer = list(done['answer'])
             answer[i] += more
             yield changed(done, answer)
+    number, place, text = refused['answer'][:3]
+    yield changed(refused, [number, place + 1, text, 0, 0, 0])
+    yield changed(refused, [number, place, 3 - text, 0, 0, 0])
+    yield changed(untouched, [5, 0, 0, 0, 0, 0])
+
+
+def wrong_bytes(done):
+    """The text's first byte, its last, and bytes behind it: within the room, at its end and past it."""
+    text = bytes.fromhex(done['output'])
     yield changed(done, text=bytes([text[0] + 1]) + text[1:])
     yield changed(done, text=text[:-1] + bytes([text[-1] + 1]))
     yield changed(done, text=text[:-1])
     yield changed(done, text=text + b'0')
     for place in (0, len(text) - 1, len(text), done['out_len'] - 1, done['out_len'], 19999):
         yield changed(done, entry=(OUTPUT, place, 0))
+
+
+def wrong_entries(case, other):
+    """A byte of the output, and the first and last entries of the form table, of the cells lent and of those behind them."""
+    lent = 4 * case['cells']
+    yield changed(case, entry=(OUTPUT, 9, 57))
+    for table, places in ((FORMS, (0, 1, 8191)), (CELLS, (0, 1, lent - 1))):
+        for place in places:
+            yield changed(case, entry=(table, place, other))
+    for place in (lent, 16399):
+        yield changed(case, entry=(CELLS, place, 0))
+
+
+def wrong_cases(path):
+    """Cases that are wrong in one thing each, between two that are right: of a run that is done, of a refusal that leaves the
+    tables zero, and of one that touches nothing."""
+    cases = [json.loads(line) for line in open(path)]
+
+    def first(fits):
+        return next(c for c in cases if len(c['program']) < 200 and fits(c, c['answer']))
+
+    done = first(lambda c, a: a[0] == 20 and a[5] > 4 and a[4] > 0 and 4 < c['cells'] < 4096 and c['out_len'] < 16384)
+    refused = first(lambda c, a: a[0] == 6 and a[1] > 0 and 4 < c['cells'] < 4096)
+    untouched = first(lambda c, a: a[0] == 3 and 0 < c['cells'] <= 4096)
+    yield changed(done)
+    yield from wrong_numbers(done, refused, untouched)
+    yield from wrong_bytes(done)
     for case, other in ((done, 1), (refused, 7), (untouched, 0)):
-        lent = 4 * case['cells']
-        yield changed(case, entry=(OUTPUT, 9, 57))
-        for table, places in ((FORMS, (0, 1, 8191)), (CELLS, (0, 1, lent - 1))):
-            for place in places:
-                yield changed(case, entry=(table, place, other))
-        for place in (lent, 16399):
-            yield changed(case, entry=(CELLS, place, 0))
-    answer = list(refused['answer'])
-    answer[1] += 1
-    yield changed(refused, answer)
-    answer[1:3] = refused['answer'][1], 3 - answer[2]
-    yield changed(refused, answer)
-    yield changed(untouched, [5] + untouched['answer'][1:])
+        yield from wrong_entries(case, other)
     yield changed(refused)
 
 

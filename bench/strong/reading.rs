@@ -18,6 +18,7 @@ struct Run {
     digit: [u64; 2],
 }
 
+/// Eight bytes from p on; zeros behind the end.
 #[inline(always)]
 fn load(s: &[u8], p: usize) -> u64 {
     match s.get(p..p + 8) {
@@ -34,6 +35,7 @@ fn load_tail(s: &[u8], p: usize) -> u64 {
     u64::from_le_bytes(b)
 }
 
+/// The run that starts at p.
 #[inline(always)]
 fn run_at(s: &[u8], p: usize) -> Run {
     let x = load(s, p);
@@ -45,6 +47,7 @@ fn run_at(s: &[u8], p: usize) -> Run {
     }
     long_run(s, p, x, l, d)
 }
+/// A run of eight bytes or more, of which the first eight are classed.
 #[inline(never)]
 fn long_run(s: &[u8], p: usize, x: u64, l: u64, d: u64) -> Run {
     let y = load(s, p + 8);
@@ -58,6 +61,7 @@ fn long_run(s: &[u8], p: usize, x: u64, l: u64, d: u64) -> Run {
     Run { n, x: [x, y], letter: [l, k], digit: [d, e] }
 }
 
+/// A word as one number, in base 37.
 #[inline(always)]
 fn packed(r: &Run) -> u64 {
     let v = pack_eight(r.x[0], r.letter[0], r.digit[0]);

@@ -5,6 +5,7 @@ pub const WORDS: [&[u8]; 23] = [
     b"reverse", b"rotl", b"rotr", b"apndr", b"distl", b"distr", b"trans",
 ];
 
+/// A word of at most eight bytes as one number, the first lowest.
 pub const fn word_key(w: &[u8]) -> u64 {
     let (mut k, mut i) = (0, 0);
     while i < w.len() {
