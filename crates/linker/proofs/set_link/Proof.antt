@@ -1,13 +1,7 @@
 -- `set_link` meets its contract.
-use mathlib.Core.Path.{_≡_, sym, ap, _∙_}
-use native.Mathlib.Omega.{arith}
 use borrow.Author.Needs.{needs}
 use Rattle.linker.proofs.set_link.Statement.{statement}
 use Rattle.linker.proofs.set_link.Tie as tie
-use Rattle.linker.proofs.set_link.Reads as reads
-use Rattle.linker.proofs.set_link.Lts as lts
-use Rattle.tables.proofs.at.Reads as at-reads
-use Rattle.tables.proofs.store.Reads as store-reads
 
 -- let kind = tables::at(t, i as usize * 4) % 32;
 mul-at : tie.Need-mul-at

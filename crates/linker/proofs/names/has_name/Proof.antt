@@ -1,12 +1,8 @@
 -- `has_name` meets its contract.
-use Rattle.linker.proofs.Walks.{name-no, name-same}
-use native.Mathlib.Omega.{arith}
+use Rattle.linker.proofs.Naming.{name-no, name-same}
 use borrow.Author.Needs.{needs}
-use Rattle.linker.proofs.has_name.Statement.{statement}
-use Rattle.linker.proofs.has_name.Tie as tie
-use Rattle.linker.proofs.has_name.Reads as reads
-use Rattle.linker.proofs.has_name.Lts as lts
-use Rattle.tables.proofs.at.Reads as at-reads
+use Rattle.linker.proofs.names.has_name.Statement.{statement}
+use Rattle.linker.proofs.names.has_name.Tie as tie
 
 -- let i = d as usize * 4;
 mul-i : tie.Need-mul-i
