@@ -7,18 +7,11 @@ use mathlib.Core.List.{List}
 use lib.Dec.{eqb}
 use lib.ListN.{getD, length, set, replicate, length-set}
 use lib.Seq.{getD-set-same, getD-set-other}
-use borrow.Author.Tests.{eq-eqb, ne-eqb, eqb-true, eqb-false}
+use borrow.Author.Tests.{ne-eqb, eqb-true, eqb-false}
 use Rattle.tables.specs.Tables.{field}
-use Rattle.linker.specs.Roots.{named, rootFrom}
+use Rattle.formtable.specs.Encoding.{named}
+use Rattle.linker.specs.Roots.{rootFrom}
 use Rattle.linker.specs.Indexing.{lowAt, Leads, Entered, Indexed}
-
-pub name-no : (D : List ℕ) (d lo hi a : ℕ) → a ≡ getD D (d * 4) 0 → (a ≡ lo → ⊥) → false ≡ named D d lo hi
-unfolding named
-name-no D d lo hi a e h = rw (ne-eqb (getD D (d * 4) 0) lo (λ z. h (e ∙ z)))
-
-pub name-same : (D : List ℕ) (d lo hi a b : ℕ) → a ≡ getD D (d * 4) 0 → a ≡ lo → b ≡ field D d 1 → eqb b hi ≡ named D d lo hi
-unfolding named
-name-same D d lo hi a b e h g = rw (eq-eqb (getD D (d * 4) 0) lo (sym e ∙ h), g)
 
 -- what is found from here on is what is found from the start on
 pub record Finding (D : List ℕ) (many lo hi d : ℕ) : Type 0 where

@@ -4,19 +4,8 @@ ghost use mathlib.Core.Path.{_≡_};
 ghost use Prim.Native.Nat.{_+_, _%_};
 ghost use lib.ListN.{replicate};
 ghost use Rattle.tables.specs.Tables.{field};
-ghost use Rattle.linker.specs.Roots.{named, rootFrom};
+ghost use Rattle.linker.specs.Roots.{rootFrom};
 ghost use Rattle.linker.specs.Indexing.{Indexed};
-
-// Whether definition d has the name [lo, hi].
-fn has_name(defs: &[u32], d: u32, lo: u32, hi: u32) -> bool
-    ensures { λ r. ⌜ r ≡ named (now (defs .entry)) d lo hi ⌝ }
-{
-    let i = d as usize * 4;
-    if tables::at(defs, i) != lo {
-        return false;
-    }
-    tables::at(defs, i + 1) == hi
-}
 
 // The record of definition d's body, and one.
 fn root_at(defs: &[u32], d: u32) -> u32
@@ -32,7 +21,7 @@ pub fn root_of(defs: &[u32], count: u32, lo: u32, hi: u32) -> u32
 {
     let mut d: u32 = 0;
     while d < count {
-        if has_name(defs, d, lo, hi) {
+        if formtable::has_name(defs, d, lo, hi) {
             return root_at(defs, d);
         }
         d += 1;
@@ -78,7 +67,7 @@ pub fn find(index: &[u32], defs: &[u32], count: u32, lo: u32, hi: u32) -> u32
     let mut left = tables::at(index, (lo % 256) as usize);
     while 0 < left {
         let d = count - left;
-        if has_name(defs, d, lo, hi) {
+        if formtable::has_name(defs, d, lo, hi) {
             return root_at(defs, d);
         }
         left = tables::at(index, left as usize + 255);

@@ -8,7 +8,7 @@ use Rattle.linker.proofs.link_one.Tie as tie
 mul-k : tie.Need-mul-k
 mul-k c = search needs
 
--- let kind = tables::at(t, k) % 32;
+-- let kind = tables::at(t, k) % KINDS;
 at-requires : tie.Need-at-requires
 at-requires c κs = search needs
 

@@ -18,11 +18,11 @@ root-of-requires c κs = search needs
 returns : tie.Need-returns Inv-loop μ-loop
 returns c = search needs
 
--- let mut left = tables::at(index, (lo % 256) as usize);
+-- let mut left = tables::at(index, (lo % ALIKE) as usize);
 cast-at : tie.Need-cast-at Inv-loop μ-loop
 cast-at c = search needs
 
--- let mut left = tables::at(index, (lo % 256) as usize);
+-- let mut left = tables::at(index, (lo % ALIKE) as usize);
 at-requires : tie.Need-at-requires Inv-loop μ-loop
 at-requires c κs = search needs
 
@@ -34,7 +34,7 @@ loop-holds c = search seek-start
 sub-d : tie.Need-sub-d Inv-loop μ-loop
 sub-d c = search needs
 
--- if has_name(defs, d, lo, hi) {
+-- if formtable::has_name(defs, d, lo, hi) {
 has-name-requires : tie.Need-has-name-requires Inv-loop μ-loop
 has-name-requires c κs = search needs
 

@@ -27,23 +27,23 @@ loop-holds c = search indexing-start
 add-left : tie.Need-add-left Inv-loop μ-loop
 add-left c = search needs
 
--- let first = (tables::at(defs, (count - left) as usize * 4) % 256) as usize;
+-- let first = (tables::at(defs, (count - left) as usize * 4) % ALIKE) as usize;
 sub-at : tie.Need-sub-at Inv-loop μ-loop
 sub-at c = search needs
 
--- let first = (tables::at(defs, (count - left) as usize * 4) % 256) as usize;
+-- let first = (tables::at(defs, (count - left) as usize * 4) % ALIKE) as usize;
 cast-at : tie.Need-cast-at Inv-loop μ-loop
 cast-at c = search needs
 
--- let first = (tables::at(defs, (count - left) as usize * 4) % 256) as usize;
+-- let first = (tables::at(defs, (count - left) as usize * 4) % ALIKE) as usize;
 mul-at : tie.Need-mul-at Inv-loop μ-loop
 mul-at c = search needs
 
--- let first = (tables::at(defs, (count - left) as usize * 4) % 256) as usize;
+-- let first = (tables::at(defs, (count - left) as usize * 4) % ALIKE) as usize;
 at-requires : tie.Need-at-requires Inv-loop μ-loop
 at-requires c κs = search needs
 
--- let first = (tables::at(defs, (count - left) as usize * 4) % 256) as usize;
+-- let first = (tables::at(defs, (count - left) as usize * 4) % ALIKE) as usize;
 cast-first : tie.Need-cast-first Inv-loop μ-loop
 cast-first c = search needs
 
