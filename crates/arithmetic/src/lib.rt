@@ -14,7 +14,7 @@ pub fn positive(n: u64) -> Val
 }
 
 // The integer -n.
-pub fn negative(n: u64) -> Val
+fn negative(n: u64) -> Val
     ensures { λ r. ⌜ Holds r (negℤ (pos n)) ⌝ }
 {
     if n == 0 {

@@ -1,8 +1,8 @@
 // Values, and the cells that their sequences stand in: four numbers to a cell, [tag, next, lo, hi].
 ghost use mathlib.Core.Path.{_≡_};
-ghost use Prim.Native.Nat.{_%_};
+ghost use Prim.Native.Nat.{_-_, _%_};
 ghost use lib.Dec.{eqb};
-ghost use Rattle.cells.specs.Cells.{valAt, sequenceVal, cellPut, free};
+ghost use Rattle.cells.specs.Cells.{valAt, nextAt, sequenceVal, cellPut, free};
 ghost use Rattle.cells.specs.Parts.{firstOf, Sized, Headed, Tailed, Nth, Paired, heldAt, holdAt, Gathered};
 use language::Meter;
 use language::Val;
@@ -80,17 +80,25 @@ pub fn tail(c: &[u32], v: Val) -> Val
     sequence(link, n - 1)
 }
 
+// The number of the cell that cell p leads to; 0 where it leads to none.
+pub fn next_cell(c: &[u32], p: u32) -> u32
+    ensures { λ r. ⌜ r ≡ nextAt (now (c .entry)) p - 1 ⌝ }
+{
+    let link = tables::at(c, p as usize * 4 + 1);
+    if link == 0 { 0 } else { link - 1 }
+}
+
 // The value in a sequence's place k, counted from 0.
 pub fn nth(c: &[u32], v: Val, k: u32) -> Val
     ensures { λ r. ⌜ Nth (now (c .entry)) v k r ⌝ }
 {
-    let mut s = v;
+    let mut p = first_cell(v);
     let mut q: u32 = 0;
     while q < k {
-        s = tail(c, s);
+        p = next_cell(c, p);
         q += 1;
     }
-    head(c, s)
+    value_at(c, p)
 }
 
 // The number of the next free cell: the cells that the meter holds are at the end.
@@ -118,7 +126,7 @@ pub fn pair(c: &mut [u32], p: u32, a: Val, b: Val) -> Val
 }
 
 // The waiting value in place i of the ring.
-pub fn held(w: &[u32], i: usize) -> Val
+fn held(w: &[u32], i: usize) -> Val
     ensures { λ r. ⌜ r ≡ heldAt (now (w .entry)) i ⌝ }
 {
     value_at(w, (i % 4096) as u32)
