@@ -7,6 +7,21 @@ ghost use Rattle.cells.specs.Parts.{firstOf, Sized, Headed, Tailed, Nth,
 use language::Meter;
 use language::Val;
 
+// The tag of an integer from 0 on.
+pub const POSITIVE: u32 = 0;
+
+// The tag of an integer below 0.
+pub const NEGATIVE: u32 = 1;
+
+// The tag of a symbol.
+pub const SYMBOL: u32 = 2;
+
+// The tag of a sequence.
+pub const SEQUENCE: u32 = 3;
+
+// How many values may wait.
+const PLACES: usize = 4096;
+
 // The value in cell p.
 pub fn value_at(c: &[u32], p: u32) -> Val
     ensures { λ r. ⌜ r ≡ valAt (now (c .entry)) p ⌝ }
@@ -33,7 +48,7 @@ pub fn put_cell(c: &mut [u32], p: u32, v: Val, next: u32)
 pub fn is_sequence(v: Val) -> bool
     ensures { λ r. ⌜ r ≡ eqb (v .tag) 3 ⌝ }
 {
-    v.tag == 3
+    v.tag == SEQUENCE
 }
 
 // How many places a sequence has.
@@ -63,7 +78,7 @@ pub fn sequence(link: u32, n: u32) -> Val
     ensures { λ r. ⌜ r ≡ sequenceVal link n ⌝ }
 {
     Val {
-        tag: 3,
+        tag: SEQUENCE,
         word: link as u64 + 4294967296 * n as u64,
     }
 }
@@ -129,14 +144,14 @@ pub fn pair(c: &mut [u32], p: u32, a: Val, b: Val) -> Val
 fn held(w: &[u32], i: usize) -> Val
     ensures { λ r. ⌜ r ≡ heldAt (now (w .entry)) i ⌝ }
 {
-    value_at(w, (i % 4096) as u32)
+    value_at(w, (i % PLACES) as u32)
 }
 
 // Lets v wait in place i of the ring.
 pub fn hold(w: &mut [u32], i: usize, v: Val)
     ensures { λ _. ⌜ now (w .exit) ≡ holdAt (now (w .entry)) i v ⌝ }
 {
-    put_cell(w, (i % 4096) as u32, v, 0);
+    put_cell(w, (i % PLACES) as u32, v, 0);
 }
 
 // The sequence of the n values that wait from top on, in cells from p on.

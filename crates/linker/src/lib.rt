@@ -11,19 +11,28 @@ mod names;
 
 pub use names::root_of;
 
+// The kind of a name.
+const NAME: u32 = 4;
+
+// The kind of a chain.
+const CHAIN: u32 = 5;
+
+// A record's first number is its kind and this many times its link.
+const KINDS: u32 = 32;
+
 // Where the form at i leads to.
 fn next(t: &[u32], i: u32) -> u32
     ensures { λ r. ⌜ r ≡ getD (now (t .entry)) (i * 4) 0 / 32 ⌝ }
 {
-    tables::at(t, i as usize * 4) / 32
+    tables::at(t, i as usize * 4) / KINDS
 }
 
 // Lets the form at i lead to `link`.
 fn set_link(t: &mut [u32], i: u32, link: u32)
     ensures { λ _. ⌜ now (t .exit) ≡ linkSet (now (t .entry)) i link ⌝ }
 {
-    let kind = tables::at(t, i as usize * 4) % 32;
-    tables::store(t, i as usize * 4, kind + 32 * (link % 134217728));
+    let kind = tables::at(t, i as usize * 4) % KINDS;
+    tables::store(t, i as usize * 4, kind + KINDS * (link % 134217728));
 }
 
 // The end of n forms that lead from one to the next, from the one at start on.
@@ -71,15 +80,15 @@ fn link_one(t: &mut [u32], i: u32, defs: &[u32], count: u32, index: &[u32])
     ensures { λ _. ⌜ OneLinked (now (t .entry)) i (now (defs .entry)) count (now (t .exit)) ⌝ }
 {
     let k = i as usize * 4;
-    let kind = tables::at(t, k) % 32;
+    let kind = tables::at(t, k) % KINDS;
     let arity = tables::at(t, k + 1);
-    if kind == 5 {
+    if kind == CHAIN {
         let r = reverse(t, i + 1, arity);
         tables::store(t, k + 2, r.last);
         set_link(t, i, r.rest);
         return;
     }
-    if kind == 4 {
+    if kind == NAME {
         let root = names::find(
             index,
             defs,

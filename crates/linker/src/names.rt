@@ -7,6 +7,12 @@ ghost use Rattle.tables.specs.Tables.{field};
 ghost use Rattle.linker.specs.Roots.{rootFrom};
 ghost use Rattle.linker.specs.Indexing.{Indexed};
 
+// Names are alike that leave the same when their low numbers are divided by this.
+const ALIKE: u32 = 256;
+
+// The most definitions that an index has room for.
+const MOST: u32 = 128;
+
 // The record of definition d's body, and one.
 fn root_at(defs: &[u32], d: u32) -> u32
     ensures { λ r. ⌜ r ≡ (field (now (defs .entry)) d 2 + 1) % 4294967296 ⌝ }
@@ -42,13 +48,13 @@ pub fn index(defs: &[u32], count: u32) -> [u32; 384]
     ensures { λ r. ⌜ Indexed (now (defs .entry)) count r ⌝ }
 {
     let mut x = empty();
-    if 128 < count {
+    if MOST < count {
         return x;
     }
     let mut left: u32 = 0;
     while left < count {
         left += 1;
-        let first = (tables::at(defs, (count - left) as usize * 4) % 256) as usize;
+        let first = (tables::at(defs, (count - left) as usize * 4) % ALIKE) as usize;
         let behind = tables::at(&x, first);
         tables::store(&mut x, left as usize + 255, behind);
         tables::store(&mut x, first, left);
@@ -61,10 +67,10 @@ pub fn find(index: &[u32], defs: &[u32], count: u32, lo: u32, hi: u32) -> u32
     requires { ⌜ Indexed (now defs) count (now index) ⌝ }
     ensures { λ r. ⌜ r ≡ rootFrom (now (defs .entry)) count lo hi 0 ⌝ }
 {
-    if 128 < count {
+    if MOST < count {
         return root_of(defs, count, lo, hi);
     }
-    let mut left = tables::at(index, (lo % 256) as usize);
+    let mut left = tables::at(index, (lo % ALIKE) as usize);
     while 0 < left {
         let d = count - left;
         if formtable::has_name(defs, d, lo, hi) {
