@@ -1,5 +1,5 @@
 -- Integers as values hold them, of any size: tag 0 and n for n, tag 1 and n for -(n + 1).
-use Prim.Native.Nat.{ℕ, _+_, _≤_, _<_}
+use Prim.Native.Nat.{ℕ, _≤_, _<_}
 use mathlib.Core.Path.{_≡_}
 use mathlib.Core.Bool.{Bool}
 use lib.IntN.{ℤ, pos, negsuc, negℤ}

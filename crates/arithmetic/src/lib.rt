@@ -6,22 +6,34 @@ ghost use lib.Signed.{quotZ};
 ghost use Rattle.arithmetic.specs.Integers.{Holds, Small, Short, Answers, Negated, Less};
 use language::Val;
 
+// The tag of an integer from 0 on.
+const POSITIVE: u32 = 0;
+
+// The tag of an integer below 0.
+const NEGATIVE: u32 = 1;
+
 // The integer n.
 pub fn positive(n: u64) -> Val
     ensures { λ r. ⌜ Holds r (pos n) ⌝ }
 {
-    Val { tag: 0, word: n }
+    Val {
+        tag: POSITIVE,
+        word: n,
+    }
 }
 
 // The integer -n.
-pub fn negative(n: u64) -> Val
+fn negative(n: u64) -> Val
     ensures { λ r. ⌜ Holds r (negℤ (pos n)) ⌝ }
 {
     if n == 0 {
-        return Val { tag: 0, word: 0 };
+        return Val {
+            tag: POSITIVE,
+            word: 0,
+        };
     }
     Val {
-        tag: 1,
+        tag: NEGATIVE,
         word: n - 1,
     }
 }
@@ -32,12 +44,12 @@ fn difference(x: u64, y: u64) -> Val
 {
     if x < y {
         return Val {
-            tag: 1,
+            tag: NEGATIVE,
             word: y - x - 1,
         };
     }
     Val {
-        tag: 0,
+        tag: POSITIVE,
         word: x - y,
     }
 }
@@ -55,7 +67,7 @@ fn negated(v: Val) -> Val
     requires { ⌜ Short v ⌝ }
     ensures { λ r. ⌜ Negated v r ⌝ }
 {
-    if v.tag == 1 {
+    if v.tag == NEGATIVE {
         return positive(v.word + 1);
     }
     negative(v.word)
@@ -73,7 +85,7 @@ pub fn add(a: Val, b: Val) -> Val
             word: x + y + a.tag as u64,
         };
     }
-    if a.tag == 0 {
+    if a.tag == POSITIVE {
         return difference(x, y + 1);
     }
     difference(y, x + 1)
@@ -114,10 +126,10 @@ pub fn is_less(a: Val, b: Val) -> bool
     ensures { λ r. ⌜ Less a b r ⌝ }
 {
     if a.tag == b.tag {
-        if a.tag == 0 {
+        if a.tag == POSITIVE {
             return a.word < b.word;
         }
         return b.word < a.word;
     }
-    a.tag == 1
+    a.tag == NEGATIVE
 }

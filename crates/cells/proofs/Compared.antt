@@ -1,15 +1,13 @@
--- Two values of integers or of symbols are equal exactly if the objects are; T and F are known by their values.
-use Prim.Native.Nat.{ℕ, zero, suc, _+_, _*_, _≤_, _<_}
+-- Two symbols are equal exactly if their packed words are; T and F are known by their values.
+use Prim.Native.Nat.{ℕ}
 use mathlib.Core.Path.{_≡_, refl, sym, ap, _∙_}
-use mathlib.Core.Bool.{Bool, true, false, _&&_}
+use mathlib.Core.Bool.{Bool, true, false}
 use mathlib.Core.List.{List}
 use native.Mathlib.Omega.{arith}
 use lib.Dec.{eqb}
-use lib.IntN.{ℤ, pos, negsuc}
 use borrow.Author.Tests.{eq-eqb, ne-eqb}
 use Rattle.language.specs.Bytes.{bytes, sameBytes}
-use Rattle.language.specs.Objects.{Obj, int, symbol, seq, Objs, nil, _::_, symbolT, symbolF, truth, truthOf, isT, isF, neither}
-use Rattle.language.specs.Meanings.{sameInt}
+use Rattle.language.specs.Objects.{Obj, symbol, truth, truthOf, isT, isF, neither}
 use Rattle.language.specs.Accepted.{IsSymbol}
 use Rattle.language.specs.Packing.{packed, letterOf}
 use Rattle.language.specs.declared.Val.{Val}
@@ -25,17 +23,6 @@ test-same false m n f g = ne-eqb m n (λ e. let h = g e in let z : _≡_ {A = �
 
 pub packed-compared : (a b : List ℕ) → IsSymbol a → IsSymbol b → eqb (packed a) (packed b) ≡ sameBytes a b
 packed-compared a b i j = test-same (sameBytes a b) (packed a) (packed b) (λ e. ap packed (same-bytes-is a b e)) (λ e. ap (λ (x : List ℕ). sameBytes a x) (sym (symbols-same a b i j e)) ∙ same-bytes-refl a)
-
--- ---- atoms
-module _ {C : List ℕ} {n : ℕ} {v u : Val} where
-  pub symbols-compared : {a b : List ℕ} → Rep C n v (symbol a) → Rep C n u (symbol b) → eqb (v .word) (u .word) ≡ sameBytes a b
-  symbols-compared {a} {b} (rep-symbol t i e) (rep-symbol t₂ j f) = rw (e, f) (packed-compared a b i j)
-
-  pub ints-compared : {a b : ℤ} → Rep C n v (int a) → Rep C n u (int b) → (eqb (v .tag) (u .tag) && eqb (v .word) (u .word)) ≡ sameInt a b
-  ints-compared (rep-pos t e l) (rep-pos t₂ f l₂) = rw (t, t₂, e, f)
-  ints-compared (rep-pos t e l) (rep-neg t₂ f l₂) = rw (t, t₂)
-  ints-compared (rep-neg t e l) (rep-pos t₂ f l₂) = rw (t, t₂)
-  ints-compared (rep-neg t e l) (rep-neg t₂ f l₂) = rw (t, t₂, e, f)
 
 -- ---- T is 20, F is 6
 packed-T : packed (bytes "T") ≡ 20

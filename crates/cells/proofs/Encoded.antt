@@ -1,19 +1,18 @@
 -- A table that holds an object's cells, one after the other, from cell c on, has the object's value stand for it.
-use Prim.Native.Nat.{ℕ, zero, suc, _+_, _-_, _*_, _/_, _%_, _≤_, _<_}
+use Prim.Native.Nat.{ℕ, _+_, _-_, _*_, _≤_}
 use mathlib.Core.Path.{_≡_, refl, sym, ap, _∙_}
-use mathlib.Core.List.{List, [], _∷_, _++_, append-assoc}
+use mathlib.Core.List.{List, _++_, append-assoc}
 use native.Mathlib.Omega.{arith}
 use native.Mathlib.Nat.{add-zero}
 use borrow.Author.Tests.{ltb-true}
 use lib.IntN.{pos, negsuc}
 use lib.ListN.{getD, length, take, drop, length-append}
 use lib.Seq.{getD-drop, drop-drop, drop-append-seam, drop-at, length-take-le}
-use Rattle.language.specs.Objects.{Obj, int, symbol, seq, Objs, nil, _::_, lengthOf, cellsOf, cellsOfAll}
+use Rattle.language.specs.Objects.{Obj, int, symbol, seq, Objs, nil, _::_, cellsOf, cellsOfAll}
 use Rattle.language.specs.Accepted.{IsObj, AreObjs}
 use Rattle.language.specs.declared.Val.{Val}
 use Rattle.tables.specs.Tables.{put}
-use Rattle.tables.proofs.Put.{put-below}
-use Rattle.cells.specs.Cells.{Rep, rep-pos, rep-neg, rep-symbol, rep-nil, rep-more, valAt, nextAt, sequenceVal, Same}
+use Rattle.cells.specs.Cells.{Rep, rep-pos, rep-neg, rep-symbol, rep-nil, rep-more, valAt, nextAt}
 use Rattle.cells.specs.Encoding.{linkOf, valOf, cell, cellsFrom, placesFrom}
 use Rattle.cells.proofs.Reps.{val-same}
 
@@ -89,6 +88,3 @@ module _ (x : Obj) (c : ℕ) (t : List ℕ) (room : (c + cellsOf x) * 4 ≤ leng
       let z = length-cells x c in
       cells-rep x c (c + cellsOf x) (take (c * 4) t ++ cellsFrom c x ++ drop (c * 4 + length (cellsFrom c x)) t) (drop (c * 4 + length (cellsFrom c x)) t) i (omega arith)
       (rw append-assoc (drop-at (take (c * 4) t) (cellsFrom c x ++ drop (c * 4 + length (cellsFrom c x)) t) (c * 4) l))
-
-  pub put-same : Same t (put t (c * 4) (cellsFrom c x)) c
-  put-same = record { keep = λ i h. put-below t (c * 4) i (cellsFrom c x) h (omega arith) }

@@ -1,14 +1,14 @@
 -- A sequence that stands in n cells has at most n places: no place's cell comes twice, since from it on as many places are left.
-use Prim.Native.Nat.{ℕ, zero, suc, _+_, _-_, _*_, _/_, _≤_, _<_}
+use Prim.Native.Nat.{ℕ, zero, suc, _+_, _-_, _*_, _≤_, _<_}
 use mathlib.Core.Path.{_≡_, refl, sym, ap, _∙_}
 use mathlib.Core.Bool.{Bool, true, false, cond}
-use mathlib.Core.List.{List, [], _∷_}
+use mathlib.Core.List.{List}
 use native.Mathlib.Omega.{arith}
 use lib.Dec.{eqb}
 use borrow.Author.Tests.{eqb-true, eqb-false}
-use Rattle.language.specs.Objects.{Obj, seq, Objs, nil, _::_, lengthOf}
+use Rattle.language.specs.Objects.{seq, Objs, nil, _::_, lengthOf}
 use Rattle.language.specs.declared.Val.{Val}
-use Rattle.cells.specs.Cells.{Rep, rep-nil, rep-more, nextAt, sequenceVal}
+use Rattle.cells.specs.Cells.{Rep, rep-nil, rep-more, nextAt}
 
 -- ---- l different numbers below n are at most n
 record Different (f : ℕ → ℕ) (l n : ℕ) : Type 0 where

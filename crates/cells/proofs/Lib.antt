@@ -5,4 +5,3 @@ pub mod Inversions
 pub mod Encoded
 pub mod Lengths
 pub mod Compared
-pub mod Ring

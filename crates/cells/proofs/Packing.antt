@@ -1,11 +1,10 @@
--- Packed symbols: different symbols are packed into different numbers, all below 37 to the 12th, less than 2^63.
-use Prim.Native.Nat.{ℕ, zero, suc, _+_, _-_, _*_, _%_, _≤_, _<_}
-use mathlib.Core.Path.{_≡_, refl, sym, ap, ap₂, _∙_}
-use mathlib.Core.Bool.{Bool, true, false, cond, _&&_, _||_}
+-- Packed symbols: different symbols are packed into different numbers.
+use Prim.Native.Nat.{ℕ, _-_, _≤_}
+use mathlib.Core.Path.{_≡_, refl, ap₂}
+use mathlib.Core.Bool.{Bool, true, false, _&&_}
 use mathlib.Core.List.{List, [], _∷_}
 use native.Mathlib.Omega.{arith}
 use lib.Dec.{leb}
-use lib.ListN.{length}
 use borrow.Author.Tests.{leb-true, le-leb, lt-leb}
 use Rattle.language.specs.Tokens.{isUpper, isDigit}
 use Rattle.language.specs.Judging.{all, isSymbolByte}
@@ -78,26 +77,3 @@ symbol-bytes (b ∷ w) i = rw (i .0, i .1)
 
 pub symbols-same : (v w : List ℕ) → IsSymbol v → IsSymbol w → packed v ≡ packed w → v ≡ w
 symbols-same v w i j e = packed-same v w (symbol-bytes v i) (symbol-bytes w j) e
-
--- ---- a symbol's number fits 64 bits
-power : ℕ → ℕ
-power zero = 1
-power (suc k) = power k * 37
-
-packed-under : (k : ℕ) (w : List ℕ) → all isSymbolByte w ≡ true → length w ≤ k → (packed w < power k) × (1 ≤ power k)
-unfolding packed power
-packed-under zero [] a h = (omega arith, omega arith)
-packed-under zero (b ∷ w) a h = absurd (omega arith)
-packed-under (suc k) [] a h = let r = packed-under k [] refl (omega arith) in (omega arith, omega arith)
-packed-under (suc k) (b ∷ w) a h =
-    let r = packed-under k w (and-second (isSymbolByte b) (all isSymbolByte w) a) (omega arith) in
-    let l = letter-range (symbol-letter b (and-first (isSymbolByte b) (all isSymbolByte w) a)) in
-    (omega arith, omega arith)
-
-symbol-length : (w : List ℕ) → IsSymbol w → length w ≤ 12
-symbol-length [] i = absurd i
-symbol-length (b ∷ w) i = i .2
-
-pub symbol-fits : (w : List ℕ) → IsSymbol w → packed w < 6582952005840035281
-unfolding power
-symbol-fits w i = packed-under 12 w (symbol-bytes w i) (symbol-length w i) .0

@@ -1,17 +1,17 @@
 -- The parts of a sequence: its size, first place, rest and place k; pairs; waiting values gathered.
-use Prim.Native.Nat.{ℕ, zero, suc, _+_, _-_, _*_, _/_, _%_, _≤_, _<_}
-use mathlib.Core.Path.{_≡_, refl, sym, ap, ap₂, subst, _∙_}
+use Prim.Native.Nat.{ℕ, zero, suc, _+_, _-_, _*_, _≤_, _<_}
+use mathlib.Core.Path.{_≡_, refl, _∙_}
 use mathlib.Core.List.{List, [], _∷_}
 use native.Mathlib.Omega.{arith}
 use native.Mathlib.Numerals.{add-one}
-use lib.ListN.{getD, length}
+use lib.ListN.{length}
 use Rattle.language.specs.Objects.{Obj, seq, Objs, nil, _::_, lengthOf, nthObj}
 use Rattle.language.specs.Meanings.{gives, nth}
 use Rattle.language.specs.declared.Val.{Val}
 use Rattle.tables.specs.Tables.{field}
 use Rattle.cells.specs.Cells.{Rep, rep-nil, rep-more, valAt, nextAt, sequenceVal, Same, cellPut}
-use Rattle.cells.specs.Parts.{sizeOf, firstOf, headOf, tailOf, Sized, Headed, Tailed, dropObjs, Nth, Paired, heldAt, onto, Held, no-held, a-held, Gathered}
-use Rattle.cells.proofs.Reps.{val-same, same-refl, same-trans, rep-ext, length-cell, cell-same, rep-new}
+use Rattle.cells.specs.Parts.{sizeOf, firstOf, Sized, Headed, Tailed, dropObjs, Nth, Paired, heldAt, onto, Held, no-held, a-held, Gathered}
+use Rattle.cells.proofs.Reps.{same-refl, same-trans, rep-ext, length-cell, cell-same, rep-new}
 
 -- ---- size, first place, rest
 pub size-is : {v : Val} {r : ℕ} → r ≡ sizeOf v → Sized v r
@@ -58,22 +58,45 @@ nth-gives nil k h = absurd (omega arith)
 nth-gives (x :: xs) zero h = refl
 nth-gives (x :: xs) (suc k) h = nth-gives xs k (omega arith)
 
--- s stands for what follows the first q places
-pub record Walking (C : List ℕ) (v : Val) (k : ℕ) (s : Val) (q : ℕ) : Type 0 where
+-- p is the first cell of the objects
+pub record From (C : List ℕ) (n p : ℕ) (xs : Objs) : Type 0 where
+  pub val : Val
+  pub first : p ≡ firstOf val
+  pub rep : Rep C n val (seq xs)
+
+pub from-head : {C : List ℕ} {n p : ℕ} {x : Obj} {xs : Objs} → n < 4294967296 → From C n p (x :: xs) → Rep C n (valAt C p) x
+from-head {C} {n} {p} {x} {xs} u f = head-is (f .first) refl .means n x xs u (f .rep)
+
+link-small : {C : List ℕ} {n a : ℕ} (xs : Objs) → n < 4294967296 → Rep C n (sequenceVal a (lengthOf xs)) (seq xs) → a < 4294967296
+link-small nil u (rep-nil t w) = omega arith
+link-small (x :: xs) u (rep-more t w l a b) = omega arith
+
+pub from-next : {C : List ℕ} {n p q : ℕ} {x : Obj} {xs : Objs} → n < 4294967296 → q ≡ nextAt C p - 1 → From C n p (x :: xs) → From C n q xs
+from-next {C} {n} {p} {q} {x} {xs} u e f = go (f .rep)
+  where
+    go : Rep C n (f .val) (seq (x :: xs)) → From C n q xs
+    go (rep-more {p = i} t w l a b) =
+        let h : p ≡ i = omega (arith, f .first) in
+        let z = link-small xs u b in
+        record { val = sequenceVal (nextAt C i) (lengthOf xs); first = rw h at e ∙ omega arith; rep = b }
+
+-- p is the first cell of what follows the first q places, where p₀ is that of all
+pub record Walking (C : List ℕ) (p₀ k p q : ℕ) : Type 0 where
   pub most : q ≤ k
-  pub means : (n : ℕ) (xs : Objs) → n < 4294967296 → k < lengthOf xs → Rep C n v (seq xs) → Rep C n s (seq (dropObjs xs q))
+  pub fits : p < 4294967296
+  pub means : (n : ℕ) (xs : Objs) → n < 4294967296 → k < lengthOf xs → From C n p₀ xs → From C n p (dropObjs xs q)
 
-pub walk-start : {C : List ℕ} {v : Val} {k : ℕ} → Walking C v k v 0
+pub walk-start : {C : List ℕ} {k p : ℕ} → p < 4294967296 → Walking C p k p 0
 unfolding dropObjs
-walk-start = record { most = omega arith; means = λ n xs u l r. r }
+walk-start e = record { most = omega arith; fits = e; means = λ n xs u l f. f }
 
-pub walk-next : {C : List ℕ} {v s s₁ : Val} {k q : ℕ} → q < k → Walking C v k s q → Tailed C s s₁ → Walking C v k s₁ (q + 1)
-walk-next {q = q} h w t = record { most = omega arith; means = λ n xs u l r. rw add-one (t .means n (nthObj xs q) (dropObjs xs (suc q)) u (rw (drop-first xs q (omega arith)) at (w .means n xs u l r))) }
+pub walk-next : {C : List ℕ} {p₀ k p p₁ q : ℕ} → q < k → Walking C p₀ k p q → p₁ ≡ nextAt C p - 1 → p₁ < 4294967296 → Walking C p₀ k p₁ (q + 1)
+walk-next {q = q} h w e f = record { most = omega arith; fits = f; means = λ n xs u l r. rw add-one (from-next u e (rw (drop-first xs q (omega arith)) at (w .means n xs u l r))) }
 
-pub walk-end : {C : List ℕ} {v s r : Val} {k q : ℕ} → k ≤ q → Walking C v k s q → Headed C s r → Nth C v k r
-walk-end {k = k} {q = q} h w t =
+pub walk-end : {C : List ℕ} {v r : Val} {p₀ k p q : ℕ} → p₀ ≡ firstOf v → k ≤ q → Walking C p₀ k p q → r ≡ valAt C p → Nth C v k r
+walk-end {v = v} {k = k} {q = q} e h w t =
     let z : q ≡ k = omega (arith, w .most) in
-    record { means = λ n xs u l r. rw (← z) (t .means n (nthObj xs q) (dropObjs xs (suc q)) u (rw (drop-first xs q (omega arith)) at (w .means n xs u l r))) }
+    record { means = λ n xs u l r. rw (← z, t) (from-head u (rw (drop-first xs q (omega arith)) at (w .means n xs u l (record { val = v; first = e; rep = r })))) }
 
 -- ---- a pair
 pub pair-far : {C C′ : List ℕ} {p : ℕ} {a b r : Val} → 4294967293 < p → Paired C p a b r C′

@@ -1,7 +1,7 @@
 -- How a value with the cells that it leads to stands for an object.
-use Prim.Native.Nat.{ℕ, zero, suc, _+_, _-_, _*_, _/_, _%_, _≤_, _<_}
+use Prim.Native.Nat.{ℕ, suc, _+_, _-_, _*_, _/_, _%_, _≤_, _<_}
 use mathlib.Core.Path.{_≡_}
-use mathlib.Core.List.{List, [], _∷_}
+use mathlib.Core.List.{List}
 use lib.IntN.{pos, negsuc}
 use lib.ListN.{getD, length}
 use Rattle.language.specs.Numbers.{half, one}

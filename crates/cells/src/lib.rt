@@ -1,11 +1,26 @@
 // Values, and the cells that their sequences stand in: four numbers to a cell, [tag, next, lo, hi].
 ghost use mathlib.Core.Path.{_≡_};
-ghost use Prim.Native.Nat.{_%_};
+ghost use Prim.Native.Nat.{_-_, _%_};
 ghost use lib.Dec.{eqb};
-ghost use Rattle.cells.specs.Cells.{valAt, sequenceVal, cellPut, free};
+ghost use Rattle.cells.specs.Cells.{valAt, nextAt, sequenceVal, cellPut, free};
 ghost use Rattle.cells.specs.Parts.{firstOf, Sized, Headed, Tailed, Nth, Paired, heldAt, holdAt, Gathered};
 use language::Meter;
 use language::Val;
+
+// The tag of an integer from 0 on.
+pub const POSITIVE: u32 = 0;
+
+// The tag of an integer below 0.
+pub const NEGATIVE: u32 = 1;
+
+// The tag of a symbol.
+pub const SYMBOL: u32 = 2;
+
+// The tag of a sequence.
+pub const SEQUENCE: u32 = 3;
+
+// How many values may wait.
+const PLACES: usize = 4096;
 
 // The value in cell p.
 pub fn value_at(c: &[u32], p: u32) -> Val
@@ -33,7 +48,7 @@ pub fn put_cell(c: &mut [u32], p: u32, v: Val, next: u32)
 pub fn is_sequence(v: Val) -> bool
     ensures { λ r. ⌜ r ≡ eqb (v .tag) 3 ⌝ }
 {
-    v.tag == 3
+    v.tag == SEQUENCE
 }
 
 // How many places a sequence has.
@@ -63,7 +78,7 @@ pub fn sequence(link: u32, n: u32) -> Val
     ensures { λ r. ⌜ r ≡ sequenceVal link n ⌝ }
 {
     Val {
-        tag: 3,
+        tag: SEQUENCE,
         word: link as u64 + 4294967296 * n as u64,
     }
 }
@@ -80,17 +95,25 @@ pub fn tail(c: &[u32], v: Val) -> Val
     sequence(link, n - 1)
 }
 
+// The number of the cell that cell p leads to; 0 where it leads to none.
+pub fn next_cell(c: &[u32], p: u32) -> u32
+    ensures { λ r. ⌜ r ≡ nextAt (now (c .entry)) p - 1 ⌝ }
+{
+    let link = tables::at(c, p as usize * 4 + 1);
+    if link == 0 { 0 } else { link - 1 }
+}
+
 // The value in a sequence's place k, counted from 0.
 pub fn nth(c: &[u32], v: Val, k: u32) -> Val
     ensures { λ r. ⌜ Nth (now (c .entry)) v k r ⌝ }
 {
-    let mut s = v;
+    let mut p = first_cell(v);
     let mut q: u32 = 0;
     while q < k {
-        s = tail(c, s);
+        p = next_cell(c, p);
         q += 1;
     }
-    head(c, s)
+    value_at(c, p)
 }
 
 // The number of the next free cell: the cells that the meter holds are at the end.
@@ -118,17 +141,17 @@ pub fn pair(c: &mut [u32], p: u32, a: Val, b: Val) -> Val
 }
 
 // The waiting value in place i of the ring.
-pub fn held(w: &[u32], i: usize) -> Val
+fn held(w: &[u32], i: usize) -> Val
     ensures { λ r. ⌜ r ≡ heldAt (now (w .entry)) i ⌝ }
 {
-    value_at(w, (i % 4096) as u32)
+    value_at(w, (i % PLACES) as u32)
 }
 
 // Lets v wait in place i of the ring.
 pub fn hold(w: &mut [u32], i: usize, v: Val)
     ensures { λ _. ⌜ now (w .exit) ≡ holdAt (now (w .entry)) i v ⌝ }
 {
-    put_cell(w, (i % 4096) as u32, v, 0);
+    put_cell(w, (i % PLACES) as u32, v, 0);
 }
 
 // The sequence of the n values that wait from top on, in cells from p on.

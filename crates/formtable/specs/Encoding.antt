@@ -1,12 +1,16 @@
 -- A program in the form table: four numbers to a form, [kind, arity, lo, hi], each form before its parts, the bodies of the
 -- definitions one after the other. A record's number is the form's place. The constants lie in cells, one after the other.
-use Prim.Native.Nat.{ℕ, zero, suc, _+_, _/_, _%_}
+use Prim.Native.Nat.{ℕ, _+_, _*_, _/_, _%_}
+use mathlib.Core.Bool.{Bool, _&&_}
 use mathlib.Core.List.{List, [], _∷_, _++_}
+use lib.Dec.{eqb}
+use lib.ListN.{getD}
 use Rattle.language.specs.Objects.{Obj}
 use Rattle.language.specs.Forms.{Form, word, name, chain, construct, constant, insert, applyAll, bu, condition, while, Forms, stop, _&_, Word, select, selectRight, op, Def, Prog, count, formsIn, constantCells}
 use Rattle.language.specs.Reading.{Placed}
 use Rattle.language.specs.Packing.{packed}
 use Rattle.language.specs.declared.Val.{Val}
+use Rattle.tables.specs.Tables.{field}
 use Rattle.lexer.specs.Vocabulary.{opCode}
 use Rattle.cells.specs.Encoding.{valOf, cellsFrom}
 
@@ -79,3 +83,7 @@ unfoldable pub encodeDefinitions : ℕ → List Placed → List ℕ
 encodeDefinitions r [] = []
 encodeDefinitions r (d ∷ ds) =
     lowOf (packed (d .def .called)) ∷ highOf (packed (d .def .called)) ∷ r ∷ d .place ∷ encodeDefinitions (r + formsIn (d .def .body)) ds
+
+-- whether definition d of such a table has this name
+unfoldable pub named : List ℕ → ℕ → ℕ → ℕ → Bool
+named D d lo hi = eqb (getD D (d * 4) 0) lo && eqb (field D d 1) hi

@@ -1,3 +1,4 @@
 pub mod Trees
 pub mod Records
 pub mod Walks
+pub mod Naming

@@ -1,13 +1,11 @@
 -- The link pass: walks over forms that lead to each other, links turned round, one record linked, and all of them.
-use Prim.Native.Nat.{ℕ, zero, suc, _+_, _-_, _*_, _/_, _%_, _≤_, _<_}
+use Prim.Native.Nat.{ℕ, _+_, _-_, _*_, _/_, _%_, _≤_, _<_}
 use native.Mathlib.Omega.{arith}
 use mathlib.Core.Path.{_≡_, refl, sym, ap, subst, _∙_}
-use mathlib.Core.Bool.{Bool, true, false, cond}
 use mathlib.Core.List.{List}
-use lib.Dec.{eqb}
 use lib.ListN.{getD, length, set, length-set}
 use lib.Seq.{getD-set-same, getD-set-other}
-use borrow.Author.Tests.{lt-ltb, le-ltb, eq-eqb, ne-eqb}
+use borrow.Author.Tests.{lt-ltb, le-ltb}
 use Rattle.language.specs.Packing.{packed}
 use Rattle.language.specs.Forms.{Form, name, chain, Forms, stop, _&_, _+&_, count}
 use Rattle.language.specs.Accepted.{IsForm, AreForms}
@@ -18,7 +16,7 @@ use Rattle.formtable.specs.Standing as S
 use Rattle.formtable.specs.Standing.{parts}
 use Rattle.linker.specs.declared.Turned.{Turned}
 use Rattle.linker.specs.Linked.{grouped, kindAt, linkAt}
-use Rattle.linker.specs.Roots.{named, rootFrom, rootIn, linkSet}
+use Rattle.linker.specs.Roots.{rootFrom, rootIn, linkSet}
 use Rattle.linker.specs.Linking.{Row, row-op, row-select, row-select-right, row-name, row-construct, row-insert, row-all, row-condition, row-while, row-constant, row-bu, Tree, tree, tree-chain, Kids, no-kid, a-kid, Back, no-back, a-back, Walked, Before, Reversed, OneLinked, AllLinked}
 use Rattle.linker.proofs.Trees.{Keeps, forms-end, forms-join, tree-up, kids-up, back-up, tree-small, constant-kept, tree-kept, kids-kept, back-kept}
 use Rattle.formtable.proofs.Standing.{stands-up, arity-of}
@@ -289,42 +287,3 @@ pub link-end : {t₀ t D : List ℕ} {total many i : ℕ} → i ≤ 0 → Linkin
 link-end {t₀} {t} {D} {total} {many} {i} z w =
     let y : i ≡ 0 = omega arith in
     record { means = λ C n fs a b g s. subst (λ (j : ℕ). Kids t C n (rootIn D many) j fs total) y (w .means C n fs a b g (subst (λ (j : ℕ). S.Stands t₀ C n j fs total) (sym y) s) .linked) }
-
--- ---- the root of a name
-pub name-no : (D : List ℕ) (d lo hi a : ℕ) → a ≡ getD D (d * 4) 0 → (a ≡ lo → ⊥) → false ≡ named D d lo hi
-unfolding named
-name-no D d lo hi a e h = rw (ne-eqb (getD D (d * 4) 0) lo (λ z. h (e ∙ z)))
-
-pub name-same : (D : List ℕ) (d lo hi a b : ℕ) → a ≡ getD D (d * 4) 0 → a ≡ lo → b ≡ field D d 1 → eqb b hi ≡ named D d lo hi
-unfolding named
-name-same D d lo hi a b e h g = rw (eq-eqb (getD D (d * 4) 0) lo (sym e ∙ h), g)
-
--- what is found from here on is what is found from the start on
-pub record Finding (D : List ℕ) (many lo hi d : ℕ) : Type 0 where
-  pub most : d ≤ many
-  pub whole : rootFrom D many lo hi 0 ≡ rootFrom D (many - d) lo hi d
-
-pub find-start : {D : List ℕ} {many lo hi : ℕ} → Finding D many lo hi 0
-find-start {D} {many} {lo} {hi} = record { most = omega arith; whole = ap (λ (k : ℕ). rootFrom D k lo hi 0) (omega arith) }
-
-one-here : (D : List ℕ) (left lo hi d : ℕ) → 0 < left → rootFrom D left lo hi d ≡ cond (named D d lo hi) ((field D d 2 + 1) % 4294967296) (rootFrom D (left - 1) lo hi (d + 1))
-unfolding rootFrom
-one-here D zero lo hi d h = absurd (omega arith)
-one-here D (suc left) lo hi d h = let z : suc left - 1 ≡ left = omega arith in rw z
-
-pub find-next : {D : List ℕ} {many lo hi d : ℕ} {b : Bool} → d < many → Finding D many lo hi d → b ≡ named D d lo hi → b ≡ false → Finding D many lo hi (d + 1)
-find-next {D} {many} {lo} {hi} {d} l w e f = record {
-  most = omega arith;
-  whole = w .whole ∙ one-here D (many - d) lo hi d (omega arith) ∙ ap (λ x. cond x ((field D d 2 + 1) % 4294967296) (rootFrom D (many - d - 1) lo hi (d + 1))) (sym e ∙ f) ∙ ap (λ (k : ℕ). rootFrom D k lo hi (d + 1)) (omega arith);
-}
-
-pub find-here : {D : List ℕ} {many lo hi d root : ℕ} {b : Bool} → d < many → Finding D many lo hi d → b ≡ named D d lo hi → b ≡ true → root ≡ field D d 2 → (root + 1) % 4294967296 ≡ rootFrom D many lo hi 0
-find-here {D} {many} {lo} {hi} {d} l w e f g = sym (w .whole ∙ one-here D (many - d) lo hi d (omega arith) ∙ ap (λ x. cond x ((field D d 2 + 1) % 4294967296) (rootFrom D (many - d - 1) lo hi (d + 1))) (sym e ∙ f) ∙ ap (λ (x : ℕ). (x + 1) % 4294967296) (sym g))
-
-none-here : (D : List ℕ) (left lo hi d : ℕ) → left ≡ 0 → rootFrom D left lo hi d ≡ 0
-unfolding rootFrom
-none-here D zero lo hi d h = refl
-none-here D (suc left) lo hi d h = absurd (omega arith)
-
-pub find-end : {D : List ℕ} {many lo hi d : ℕ} → many ≤ d → Finding D many lo hi d → 0 ≡ rootFrom D many lo hi 0
-find-end {D} {many} {lo} {hi} {d} l w = sym (w .whole ∙ none-here D (many - d) lo hi d (omega arith))

@@ -1,3 +1,4 @@
 pub mod Linked
 pub mod Roots
+pub mod Indexing
 pub mod Linking

@@ -1,15 +1,11 @@
 -- Where the body of a name begins, by the table of definitions; and a record's link.
 use Prim.Native.Nat.{ℕ, zero, suc, _+_, _*_, _/_, _%_}
-use mathlib.Core.Bool.{Bool, cond, _&&_}
+use mathlib.Core.Bool.{cond}
 use mathlib.Core.List.{List}
-use lib.Dec.{eqb}
 use lib.ListN.{getD, set}
 use Rattle.language.specs.Packing.{packed}
 use Rattle.tables.specs.Tables.{field}
-
--- whether definition d, [lo, hi, root, place], has this name
-unfoldable pub named : List ℕ → ℕ → ℕ → ℕ → Bool
-named D d lo hi = eqb (getD D (d * 4) 0) lo && eqb (field D d 1) hi
+use Rattle.formtable.specs.Encoding.{named}
 
 -- the first of the definitions, `left` of them from d on, that has this name: its root and one; 0 for none
 unfoldable pub rootFrom : List ℕ → ℕ → ℕ → ℕ → ℕ → ℕ

@@ -3,22 +3,36 @@
 ghost use mathlib.Core.Path.{_≡_};
 ghost use Prim.Native.Nat.{_+_, _*_, _/_, _%_, _<_};
 ghost use lib.ListN.{getD};
-ghost use Rattle.linker.specs.Roots.{named, rootFrom, linkSet};
+ghost use Rattle.linker.specs.Roots.{linkSet};
+ghost use Rattle.linker.specs.Indexing.{Indexed};
 ghost use Rattle.linker.specs.Linking.{Walked, Reversed, OneLinked, AllLinked};
 
+mod names;
+
+pub use names::root_of;
+
+// The kind of a name.
+const NAME: u32 = 4;
+
+// The kind of a chain.
+const CHAIN: u32 = 5;
+
+// A record's first number is its kind and this many times its link.
+const KINDS: u32 = 32;
+
 // Where the form at i leads to.
-pub fn next(t: &[u32], i: u32) -> u32
+fn next(t: &[u32], i: u32) -> u32
     ensures { λ r. ⌜ r ≡ getD (now (t .entry)) (i * 4) 0 / 32 ⌝ }
 {
-    tables::at(t, i as usize * 4) / 32
+    tables::at(t, i as usize * 4) / KINDS
 }
 
 // Lets the form at i lead to `link`.
 fn set_link(t: &mut [u32], i: u32, link: u32)
     ensures { λ _. ⌜ now (t .exit) ≡ linkSet (now (t .entry)) i link ⌝ }
 {
-    let kind = tables::at(t, i as usize * 4) % 32;
-    tables::store(t, i as usize * 4, kind + 32 * (link % 134217728));
+    let kind = tables::at(t, i as usize * 4) % KINDS;
+    tables::store(t, i as usize * 4, kind + KINDS * (link % 134217728));
 }
 
 // The end of n forms that lead from one to the next, from the one at start on.
@@ -60,48 +74,28 @@ fn reverse(t: &mut [u32], start: u32, n: u32) -> Turned
     }
 }
 
-// Whether definition d has the name [lo, hi].
-fn has_name(defs: &[u32], d: u32, lo: u32, hi: u32) -> bool
-    ensures { λ r. ⌜ r ≡ named (now (defs .entry)) d lo hi ⌝ }
-{
-    let i = d as usize * 4;
-    if tables::at(defs, i) != lo {
-        return false;
-    }
-    tables::at(defs, i + 1) == hi
-}
-
-// The record of the body of the name [lo, hi], and one, in the first `count` definitions; 0 if there is none.
-pub fn root_of(defs: &[u32], count: u32, lo: u32, hi: u32) -> u32
-    ensures { λ r. ⌜ r ≡ rootFrom (now (defs .entry)) count lo hi 0 ⌝ }
-{
-    let mut d: u32 = 0;
-    while d < count {
-        if has_name(defs, d, lo, hi) {
-            let root = tables::at(defs, d as usize * 4 + 2) as u64;
-            return ((root + 1) % 4294967296) as u32;
-        }
-        d += 1;
-    }
-    0
-}
-
 // Links the form at i, whose parts and all that follows them are linked: it leads to what follows its parts.
-fn link_one(t: &mut [u32], i: u32, defs: &[u32], count: u32)
-    requires { ⌜ i < 4294967295 ⌝ }
+fn link_one(t: &mut [u32], i: u32, defs: &[u32], count: u32, index: &[u32])
+    requires { ⌜ (i < 4294967295) × Indexed (now defs) count (now index) ⌝ }
     ensures { λ _. ⌜ OneLinked (now (t .entry)) i (now (defs .entry)) count (now (t .exit)) ⌝ }
 {
     let k = i as usize * 4;
-    let kind = tables::at(t, k) % 32;
+    let kind = tables::at(t, k) % KINDS;
     let arity = tables::at(t, k + 1);
-    if kind == 5 {
+    if kind == CHAIN {
         let r = reverse(t, i + 1, arity);
         tables::store(t, k + 2, r.last);
         set_link(t, i, r.rest);
         return;
     }
-    if kind == 4 {
-        let root = root_of(defs, count, tables::at(t, k + 2), tables::at(t, k + 3));
+    if kind == NAME {
+        let root = names::find(
+            index,
+            defs,
+            count,
+            tables::at(t, k + 2),
+            tables::at(t, k + 3),
+        );
         tables::store(t, k + 1, root);
         set_link(t, i, i + 1);
         return;
@@ -114,9 +108,10 @@ fn link_one(t: &mut [u32], i: u32, defs: &[u32], count: u32)
 pub fn link(t: &mut [u32], total: u32, defs: &[u32], count: u32)
     ensures { λ _. ⌜ AllLinked (now (t .entry)) total (now (defs .entry)) count (now (t .exit)) ⌝ }
 {
+    let index = names::index(defs, count);
     let mut i = total;
     while 0 < i {
         i -= 1;
-        link_one(t, i, defs, count);
+        link_one(t, i, defs, count, &index);
     }
 }

@@ -14,11 +14,11 @@ use Rattle.language.specs.Evaluation.{lookup}
 use Rattle.language.specs.Packing.{packed}
 use Rattle.language.specs.Reading.{Placed, programOf}
 use Rattle.tables.specs.Tables.{field}
-use Rattle.formtable.specs.Encoding.{lowOf, highOf, encodeDefinitions}
+use Rattle.formtable.specs.Encoding.{lowOf, highOf, encodeDefinitions, named}
 use Rattle.formtable.specs.Standing.{parts, bodies}
 use Rattle.formtable.proofs.Names.{name-test-back}
 use Rattle.linker.specs.Linked.{FormAt, DefAt, no-def, a-def}
-use Rattle.linker.specs.Roots.{named, rootFrom}
+use Rattle.linker.specs.Roots.{rootFrom}
 use Rattle.linker.specs.Linking.{Tree, tree, tree-chain, Kids, no-kid, a-kid, Back, no-back, a-back}
 use Rattle.linker.proofs.Trees.{form-of, tree-small}
 

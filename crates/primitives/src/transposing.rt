@@ -12,7 +12,7 @@ use language::Val;
 pub fn trans(c: &mut [u32], v: Val, m: Meter) -> Ended
     ensures { λ r. ⌜ Leaf (now (c .entry)) v m (op Op.trans) r (now (c .exit)) ⌝ }
 {
-    if v.tag != 3 {
+    if v.tag != cells::SEQUENCE {
         return Ended::Stop(21, m);
     }
     let n = cells::size(v);

@@ -7,7 +7,7 @@ use native.Mathlib.Numerals.{add-one}
 use native.Mathlib.Omega.{arith}
 use lib.Dec.{eqb}
 use lib.ListN.{length, getD, drop}
-use borrow.Author.Tests.{eq-eqb, ne-eqb, eqb-true, eqb-false}
+use borrow.Author.Tests.{eqb-true, eqb-false}
 use Rattle.language.specs.Bytes.{sameBytes}
 use Rattle.language.specs.Forms.{Prog, formsIn}
 use Rattle.language.specs.Accepted.{IsName}
@@ -17,17 +17,9 @@ use Rattle.tables.specs.Tables.{put, field}
 use Rattle.tables.proofs.Put.{put-inside}
 use Rattle.formtable.proofs.Lengths.{length-definitions}
 use Rattle.formtable.proofs.Names.{name-test}
-use Rattle.formtable.specs.Encoding.{lowOf, highOf, encodeDefinitions}
+use Rattle.formtable.specs.Encoding.{lowOf, highOf, encodeDefinitions, named}
 use Rattle.programs.specs.declared.TwiceRead.the-variants as T
-use Rattle.programs.specs.Definitions.{AllNamed, none-named, more-named, nameAt, placeAt, earlierOf, Listed, SameName, Compared, TwiceMet}
-
--- ---- same_name
-module _ {d : List ℕ} {j lo hi a : ℕ} (h : a ≡ getD d (j * 4) 0) where
-  pub same-low : (a ≡ lo → ⊥) → SameName d j lo hi false
-  same-low o = record { is = rw (← h, ne-eqb a lo o) }
-
-  pub same-high : {b : ℕ} → a ≡ lo → b ≡ field d j 1 → SameName d j lo hi (eqb b hi)
-  same-high {b} e g = record { is = rw (← h, eq-eqb a lo e, ← g) }
+use Rattle.programs.specs.Definitions.{AllNamed, none-named, more-named, nameAt, placeAt, earlierOf, Listed, Compared, TwiceMet}
 
 -- ---- is_earlier
 later : (w : List ℕ) (ds : List Placed) (j i : ℕ) → j ≤ i → isIn w (earlierOf ds j) ≡ true → isIn w (earlierOf ds i) ≡ true
@@ -53,11 +45,12 @@ pub unlike-starts : {d : List ℕ} {i : ℕ} → Unlike d i 0
 unfolding isIn earlierOf
 unlike-starts = record { most = omega arith; means = λ ds l h. refl }
 
-module _ {d : List ℕ} {i j lo hi : ℕ} {r : Bool} (a : lo ≡ getD d (i * 4) 0) (b : hi ≡ field d i 1) (w : Unlike d i j) (l : j < i) (m : SameName d j lo hi r) where
+module _ {d : List ℕ} {i j lo hi : ℕ} {r : Bool} (a : lo ≡ getD d (i * 4) 0) (b : hi ≡ field d i 1) (w : Unlike d i j) (l : j < i) (m : r ≡ named d j lo hi) where
   same-names : (ds : List Placed) → Listed d ds → i < length ds → sameBytes (nameAt ds j) (nameAt ds i) ≡ r
+  unfolding named
   same-names ds t h =
       sym (name-test (nameAt ds j) (nameAt ds i) (t .named j (omega arith)) (t .named i h))
-      ∙ rw (← (t .low j (omega arith)), ← (t .high j (omega arith)), ← (t .low i h), ← (t .high i h), ← a, ← b) (sym (m .is))
+      ∙ rw (← (t .low j (omega arith)), ← (t .high j (omega arith)), ← (t .low i h), ← (t .high i h), ← a, ← b) (sym m)
 
   pub earlier-found : r ≡ true → Compared d i true
   unfolding isIn earlierOf

@@ -1,9 +1,8 @@
 -- What the readers of definitions answer, and what the table of definitions holds then.
 use Prim.Native.Nat.{ℕ, zero, suc, _+_, _*_, _≤_, _<_}
 use mathlib.Core.Path.{_≡_}
-use mathlib.Core.Bool.{Bool, _&&_}
+use mathlib.Core.Bool.{Bool}
 use mathlib.Core.List.{List, [], _∷_, map}
-use lib.Dec.{eqb}
 use lib.ListN.{length, getD}
 use Rattle.language.specs.Forms.{Prog, formsOf, programCells}
 use Rattle.language.specs.Accepted.{IsName}
@@ -61,9 +60,6 @@ pub record Listed (d : List ℕ) (ds : List Placed) : Type 0 where
   pub high : (i : ℕ) → i < length ds → field d i 1 ≡ highOf (packed (nameAt ds i))
   pub place : (i : ℕ) → i < length ds → field d i 3 ≡ placeAt ds i
   pub named : (i : ℕ) → i < length ds → IsName (nameAt ds i)
-
-pub record SameName (d : List ℕ) (j lo hi : ℕ) (r : Bool) : Type 0 where
-  pub is : r ≡ (eqb (getD d (j * 4) 0) lo && eqb (field d j 1) hi)
 
 pub record Compared (d : List ℕ) (i : ℕ) (r : Bool) : Type 0 where
   pub means : (ds : List Placed) → Listed d ds → i < length ds → r ≡ isIn (nameAt ds i) (earlierOf ds i)

@@ -6,7 +6,7 @@ ghost use lib.ListN.{length};
 ghost use Rattle.language.specs.Reading.{readProgram};
 ghost use Rattle.programs.specs.Bodies.{bodyAt, placedAt, definitionsAt};
 ghost use Rattle.forms.specs.Readings.{Ready, FormMet};
-ghost use Rattle.programs.specs.Definitions.{DefinitionPut, PlacedMet, DefinitionsMet, SameName, Compared, TwiceMet, ProgramMet};
+ghost use Rattle.programs.specs.Definitions.{DefinitionPut, PlacedMet, DefinitionsMet, Compared, TwiceMet, ProgramMet};
 use super::DefinitionsRead;
 use super::ProgramRead;
 use super::TwiceRead;
@@ -118,23 +118,12 @@ fn is_earlier(d: &[u32], i: usize) -> bool
     let hi = tables::at(d, i * 4 + 1);
     let mut j = 0;
     while j < i {
-        if same_name(d, j, lo, hi) {
+        if formtable::has_name(d, j as u32, lo, hi) {
             return true;
         }
         j += 1;
     }
     false
-}
-
-// Whether the two halves of definition j's name are these.
-fn same_name(d: &[u32], j: usize, lo: u32, hi: u32) -> bool
-    requires { ⌜ j < 128 ⌝ }
-    ensures { λ r. ⌜ SameName (now (d .entry)) j lo hi r ⌝ }
-{
-    if tables::at(d, j * 4) != lo {
-        return false;
-    }
-    tables::at(d, j * 4 + 1) == hi
 }
 
 // The place of the first of n names that an earlier definition has.

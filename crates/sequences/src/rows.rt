@@ -11,17 +11,17 @@ use language::Val;
 pub fn are_rows(c: &[u32], v: Val, n: u32, w: u32) -> bool
     ensures { λ r. ⌜ Rows (now (c .entry)) v n w r ⌝ }
 {
-    let mut rest = v;
+    let mut p = cells::first_cell(v);
     let mut left = n;
     while 0 < left {
-        let row = cells::head(c, rest);
+        let row = cells::value_at(c, p);
         if !cells::is_sequence(row) {
             return false;
         }
         if cells::size(row) != w {
             return false;
         }
-        rest = cells::tail(c, rest);
+        p = cells::next_cell(c, p);
         left -= 1;
     }
     true
@@ -86,10 +86,14 @@ fn listed(c: &mut [u32], first: u32, n: u32, w: u32, p: u32) -> Val
     s
 }
 
-// The w columns of the n rows of v, in the cells from p on: w for each row, and then one for each column.
+// The w columns of the n rows of v, in the cells from p on: w for each row, and then one for each column. Where there is no
+// column no row is walked.
 pub fn columns(c: &mut [u32], v: Val, n: u32, w: u32, p: u32) -> Val
     ensures { λ r. ⌜ Columns (now (c .entry)) v n w p r (now (c .exit)) ⌝ }
 {
+    if w == 0 {
+        return cells::sequence(0, 0);
+    }
     let free = spread(c, v, n, w, p);
     listed(c, p, n, w, free)
 }

@@ -1,12 +1,12 @@
 -- Laws of `put`: runs behind, before and over each other; its length; what is read of it, inside and outside of what was put.
-use mathlib.Core.Path.{_≡_, refl, ap, sym, _∙_}
+use mathlib.Core.Path.{_≡_, ap, _∙_}
 use mathlib.Core.List.{List, [], _∷_, _++_, append-assoc, append-nil}
-use Prim.Native.Nat.{ℕ, zero, suc, _+_, _-_, _*_, _≤_, _<_}
+use Prim.Native.Nat.{ℕ, _+_, _-_, _≤_, _<_}
 use native.Mathlib.Nat.{add-zero}
 use native.Mathlib.Numerals.{add-one, add-two, add-three}
 use native.Mathlib.Omega.{arith}
 use lib.ListN.{length, take, drop, set, getD, length-append, take-append-drop, List·getD-append}
-use lib.Seq.{sets, sets-eq, take-at, drop-at, drop-append-add, drop-drop, take-append-le, take-take, length-take-le, getD-take, getD-drop, getD-append-add}
+use lib.Seq.{sets-eq, take-at, drop-at, drop-append-add, drop-drop, take-append-le, take-take, length-take-le, getD-take, getD-drop, getD-append-add}
 use Rattle.tables.specs.Tables.{put}
 
 pub past : (p q : List ℕ) (n m : ℕ) → length p ≡ n → drop (n + m) (p ++ q) ≡ drop m q

@@ -1,13 +1,13 @@
 -- Laws of records: a record that was put, with room for it and without; its numbers and those of the others; records that move.
 use mathlib.Core.Path.{_≡_, refl, ap, sym, _∙_}
-use mathlib.Core.Bool.{Bool, true, false, cond}
+use mathlib.Core.Bool.{Bool, true, false}
 use mathlib.Core.List.{List, [], _∷_, _++_}
 use Prim.Native.Nat.{ℕ, zero, suc, _+_, _-_, _*_, _≤_, _<_}
 use native.Mathlib.Nat.{add-zero}
 use native.Mathlib.Omega.{arith}
 use lib.Dec.{leb}
 use native.Mathlib.Numerals.{add-one}
-use lib.ListN.{length, set, getD, take, drop, replicate, length-set, drop-of-length-le}
+use lib.ListN.{length, set, getD, take, replicate, length-set, drop-of-length-le}
 use lib.Seq.{slice, slice-cons, slice-empty, length-slice, take-suc-set, take-all, length-take-le}
 use borrow.Author.Tests.{le-leb, lt-leb, leb-true, leb-false}
 use Rattle.tables.specs.Tables.{put, field, recordPut, shifted}

@@ -1,18 +1,18 @@
 -- `link` meets its contract.
 use Rattle.linker.proofs.Walks.{Linking, link-start, link-next, link-end}
 use borrow.Author.Needs.{needs}
-use native.Mathlib.Omega.{arith}
 use Rattle.linker.proofs.link.Statement.{statement}
 use Rattle.linker.proofs.link.Tie as tie
-use Rattle.linker.proofs.link.Reads as reads
-use Rattle.linker.proofs.link.Lts as lts
-use Rattle.linker.proofs.link_one.Reads as link-one-reads
 
 abbrev Inv-loop : tie.InvT-loop
-Inv-loop t₀ total defs count i₀ t i = Linking t₀ total defs count t i
+Inv-loop t₀ total defs count index i₀ t i = Linking t₀ total defs count t i
 
 abbrev μ-loop : tie.MeasureT-loop
-μ-loop t₀ total defs count i₀ t i = i
+μ-loop t₀ total defs count index i₀ t i = i
+
+-- let index = names::index(defs, count);
+index-requires : tie.Need-index-requires Inv-loop μ-loop
+index-requires c κs = search needs
 
 -- while 0 < i {
 loop-holds : tie.Need-loop-holds Inv-loop μ-loop
@@ -22,7 +22,11 @@ loop-holds c = search link-start
 sub-i : tie.Need-sub-i Inv-loop μ-loop
 sub-i c = search needs
 
--- link_one(t, i, defs, count);
+-- link_one(t, i, defs, count, &index);
+slice-aggregate-link-one : tie.Need-slice-aggregate-link-one Inv-loop μ-loop
+slice-aggregate-link-one c = search needs
+
+-- link_one(t, i, defs, count, &index);
 link-one-requires : tie.Need-link-one-requires Inv-loop μ-loop
 link-one-requires c κs = search needs
 
@@ -48,8 +52,10 @@ link-spec =
     (tie.spec
     Inv-loop
     μ-loop
+    index-requires
     loop-holds
     sub-i
+    slice-aggregate-link-one
     link-one-requires
     loop-less
     loop-again

@@ -1,23 +1,14 @@
 -- `link_one` meets its contract: a chain, a name, any other form.
 use Rattle.linker.proofs.Walks.{one-plain, one-chain, one-name}
-use native.Mathlib.Omega.{arith}
 use borrow.Author.Needs.{needs}
 use Rattle.linker.proofs.link_one.Statement.{statement}
 use Rattle.linker.proofs.link_one.Tie as tie
-use Rattle.linker.proofs.link_one.Reads as reads
-use Rattle.linker.proofs.link_one.Lts as lts
-use Rattle.linker.proofs.reverse.Reads as reverse-reads
-use Rattle.linker.proofs.root_of.Reads as root-of-reads
-use Rattle.linker.proofs.set_link.Reads as set-link-reads
-use Rattle.linker.proofs.walk.Reads as walk-reads
-use Rattle.tables.proofs.at.Reads as at-reads
-use Rattle.tables.proofs.store.Reads as store-reads
 
 -- let k = i as usize * 4;
 mul-k : tie.Need-mul-k
 mul-k c = search needs
 
--- let kind = tables::at(t, k) % 32;
+-- let kind = tables::at(t, k) % KINDS;
 at-requires : tie.Need-at-requires
 at-requires c κs = search needs
 
@@ -57,25 +48,25 @@ same-length c = search needs
 returns : tie.Need-returns
 returns c = search one-chain
 
--- let root = root_of(defs, count, tables::at(t, k + 2), tables::at(t, k + 3));
+-- let root = names::find(index, defs, count, tables::at(t, k + 2), tables::at(t, k + 3));
 add-at-2 : tie.Need-add-at-2
 add-at-2 c = search needs
 
--- let root = root_of(defs, count, tables::at(t, k + 2), tables::at(t, k + 3));
+-- let root = names::find(index, defs, count, tables::at(t, k + 2), tables::at(t, k + 3));
 at-requires-3 : tie.Need-at-requires-3
 at-requires-3 c κs = search needs
 
--- let root = root_of(defs, count, tables::at(t, k + 2), tables::at(t, k + 3));
+-- let root = names::find(index, defs, count, tables::at(t, k + 2), tables::at(t, k + 3));
 add-at-3 : tie.Need-add-at-3
 add-at-3 c = search needs
 
--- let root = root_of(defs, count, tables::at(t, k + 2), tables::at(t, k + 3));
+-- let root = names::find(index, defs, count, tables::at(t, k + 2), tables::at(t, k + 3));
 at-requires-4 : tie.Need-at-requires-4
 at-requires-4 c κs = search needs
 
--- let root = root_of(defs, count, tables::at(t, k + 2), tables::at(t, k + 3));
-root-of-requires : tie.Need-root-of-requires
-root-of-requires c κs = search needs
+-- let root = names::find(index, defs, count, tables::at(t, k + 2), tables::at(t, k + 3));
+find-requires : tie.Need-find-requires
+find-requires c κs = search needs
 
 -- tables::store(t, k + 1, root);
 add-store-2 : tie.Need-add-store-2
@@ -113,11 +104,11 @@ walk-requires c κs = search needs
 set-link-requires-3 : tie.Need-set-link-requires-3
 set-link-requires-3 c κs = search needs
 
--- fn link_one(t: &mut [u32], i: u32, defs: &[u32], count: u32)
+-- fn link_one(t: &mut [u32], i: u32, defs: &[u32], count: u32, index: &[u32])
 same-length-3 : tie.Need-same-length-3
 same-length-3 c = search needs
 
--- fn link_one(t: &mut [u32], i: u32, defs: &[u32], count: u32)
+-- fn link_one(t: &mut [u32], i: u32, defs: &[u32], count: u32, index: &[u32])
 returns-3 : tie.Need-returns-3
 returns-3 c = search one-plain
 
@@ -140,7 +131,7 @@ link-one-spec =
     at-requires-3
     add-at-3
     at-requires-4
-    root-of-requires
+    find-requires
     add-store-2
     store-requires-2
     add-set-link

@@ -2,13 +2,8 @@
 use Prim.Native.Nat.{_-_}
 use Rattle.linker.proofs.Walks.{Turning, turn-start, turn-next, turn-end}
 use borrow.Author.Needs.{needs}
-use native.Mathlib.Omega.{arith}
 use Rattle.linker.proofs.reverse.Statement.{statement}
 use Rattle.linker.proofs.reverse.Tie as tie
-use Rattle.linker.proofs.reverse.Reads as reads
-use Rattle.linker.proofs.reverse.Lts as lts
-use Rattle.linker.proofs.next.Reads as next-reads
-use Rattle.linker.proofs.set_link.Reads as set-link-reads
 
 abbrev Inv-loop : tie.InvT-loop
 Inv-loop t₀ start n j₀ before₀ q₀ t j before q = Turning t₀ start n t j before q

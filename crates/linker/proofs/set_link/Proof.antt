@@ -1,35 +1,29 @@
 -- `set_link` meets its contract.
-use mathlib.Core.Path.{_≡_, sym, ap, _∙_}
-use native.Mathlib.Omega.{arith}
 use borrow.Author.Needs.{needs}
 use Rattle.linker.proofs.set_link.Statement.{statement}
 use Rattle.linker.proofs.set_link.Tie as tie
-use Rattle.linker.proofs.set_link.Reads as reads
-use Rattle.linker.proofs.set_link.Lts as lts
-use Rattle.tables.proofs.at.Reads as at-reads
-use Rattle.tables.proofs.store.Reads as store-reads
 
--- let kind = tables::at(t, i as usize * 4) % 32;
+-- let kind = tables::at(t, i as usize * 4) % KINDS;
 mul-at : tie.Need-mul-at
 mul-at c = search needs
 
--- let kind = tables::at(t, i as usize * 4) % 32;
+-- let kind = tables::at(t, i as usize * 4) % KINDS;
 at-requires : tie.Need-at-requires
 at-requires c κs = search needs
 
--- tables::store(t, i as usize * 4, kind + 32 * (link % 134217728));
+-- tables::store(t, i as usize * 4, kind + KINDS * (link % 134217728));
 mul-store : tie.Need-mul-store
 mul-store c = search needs
 
--- tables::store(t, i as usize * 4, kind + 32 * (link % 134217728));
+-- tables::store(t, i as usize * 4, kind + KINDS * (link % 134217728));
 mul-store-2 : tie.Need-mul-store-2
 mul-store-2 c = search needs
 
--- tables::store(t, i as usize * 4, kind + 32 * (link % 134217728));
+-- tables::store(t, i as usize * 4, kind + KINDS * (link % 134217728));
 add-store : tie.Need-add-store
 add-store c = search needs
 
--- tables::store(t, i as usize * 4, kind + 32 * (link % 134217728));
+-- tables::store(t, i as usize * 4, kind + KINDS * (link % 134217728));
 store-requires : tie.Need-store-requires
 store-requires c κs = search needs
 

@@ -2,12 +2,8 @@
 use Prim.Native.Nat.{_-_}
 use Rattle.linker.proofs.Walks.{Walking, walk-start, walk-next, walk-end}
 use borrow.Author.Needs.{needs}
-use native.Mathlib.Omega.{arith}
 use Rattle.linker.proofs.walk.Statement.{statement}
 use Rattle.linker.proofs.walk.Tie as tie
-use Rattle.linker.proofs.walk.Reads as reads
-use Rattle.linker.proofs.walk.Lts as lts
-use Rattle.linker.proofs.next.Reads as next-reads
 
 abbrev Inv-loop : tie.InvT-loop
 Inv-loop t start n j₀ q₀ j q = Walking t start n j q

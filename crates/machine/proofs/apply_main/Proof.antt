@@ -3,11 +3,6 @@ use Rattle.machine.proofs.Mains.{main-applied}
 use borrow.Author.Needs.{needs}
 use Rattle.machine.proofs.apply_main.Statement.{statement}
 use Rattle.machine.proofs.apply_main.Tie as tie
-use Rattle.machine.proofs.apply_main.Reads as reads
-use Rattle.machine.proofs.apply_main.Lts as lts
-use Rattle.evaluator.proofs.run.evaluate.Reads as evaluate-reads
-use Rattle.linker.proofs.link.Reads as link-reads
-use Rattle.machine.proofs.main_root.Reads as main-root-reads
 
 -- linker::link(forms, total, definitions, many);
 link-requires : tie.Need-link-requires

@@ -3,9 +3,6 @@ use Rattle.machine.proofs.Mains.{main-packed}
 use borrow.Author.Needs.{needs}
 use Rattle.machine.proofs.main_root.Statement.{statement}
 use Rattle.machine.proofs.main_root.Tie as tie
-use Rattle.machine.proofs.main_root.Reads as reads
-use Rattle.machine.proofs.main_root.Lts as lts
-use Rattle.linker.proofs.root_of.Reads as root-of-reads
 
 -- linker::root_of(definitions, many, MAIN, 0)
 root-of-requires : tie.Need-root-of-requires

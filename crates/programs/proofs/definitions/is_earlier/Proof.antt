@@ -23,7 +23,8 @@ is-earlier-spec =
     (λ c. search needs)  -- add-at
     (λ c κs. search needs)  -- at-requires-2
     (λ c. search unlike-starts)  -- loop-holds
-    (λ c κs. search needs)  -- same-name-requires
+    (λ c. search needs)  -- cast-has-name
+    (λ c κs. search needs)  -- has-name-requires
     (λ c. search earlier-found)  -- returns
     (λ c. search needs)  -- add-j
     (λ c. search needs)  -- loop-less

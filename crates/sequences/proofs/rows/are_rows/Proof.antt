@@ -1,22 +1,26 @@
 -- `are_rows` tells whether all places are rows: those that were passed are.
-use borrow.Author.Needs.{needs}
 use Rattle.sequences.proofs.Transposing.{Checking, rows-start, rows-atom, rows-uneven, rows-next, rows-end}
+use borrow.Author.Needs.{needs}
 use Rattle.sequences.proofs.rows.are_rows.Statement.{statement}
 use Rattle.sequences.proofs.rows.are_rows.Tie as tie
 
 abbrev Inv-loop : tie.InvT-loop
-Inv-loop c n w rest₀ left₀ rest left = Checking c rest₀ n w rest left
+Inv-loop c n w p₀ left₀ p left = Checking c p₀ n w p left
 
 abbrev μ-loop : tie.MeasureT-loop
-μ-loop c n w rest₀ left₀ rest left = left
+μ-loop c n w p₀ left₀ p left = left
+
+-- let mut p = cells::first_cell(v);
+first-cell-requires : tie.Need-first-cell-requires Inv-loop μ-loop
+first-cell-requires c κs = search needs
 
 -- while 0 < left {
 loop-holds : tie.Need-loop-holds Inv-loop μ-loop
 loop-holds c = search rows-start
 
--- let row = cells::head(c, rest);
-head-requires : tie.Need-head-requires Inv-loop μ-loop
-head-requires c κs = search needs
+-- let row = cells::value_at(c, p);
+value-at-requires : tie.Need-value-at-requires Inv-loop μ-loop
+value-at-requires c κs = search needs
 
 -- if !cells::is_sequence(row) {
 is-sequence-requires : tie.Need-is-sequence-requires Inv-loop μ-loop
@@ -34,9 +38,9 @@ size-requires c κs = search needs
 returns-2 : tie.Need-returns-2 Inv-loop μ-loop
 returns-2 c = search rows-uneven
 
--- rest = cells::tail(c, rest);
-tail-requires : tie.Need-tail-requires Inv-loop μ-loop
-tail-requires c κs = search needs
+-- p = cells::next_cell(c, p);
+next-cell-requires : tie.Need-next-cell-requires Inv-loop μ-loop
+next-cell-requires c κs = search needs
 
 -- left -= 1;
 sub-left : tie.Need-sub-left Inv-loop μ-loop
@@ -60,13 +64,14 @@ are-rows-spec =
     (tie.spec
     Inv-loop
     μ-loop
+    first-cell-requires
     loop-holds
-    head-requires
+    value-at-requires
     is-sequence-requires
     returns
     size-requires
     returns-2
-    tail-requires
+    next-cell-requires
     sub-left
     loop-less
     loop-again

@@ -1,18 +1,14 @@
 -- `has_name` meets its contract.
-use Rattle.linker.proofs.Walks.{name-no, name-same}
-use native.Mathlib.Omega.{arith}
+use Rattle.formtable.proofs.Names.{name-no, name-same}
 use borrow.Author.Needs.{needs}
-use Rattle.linker.proofs.has_name.Statement.{statement}
-use Rattle.linker.proofs.has_name.Tie as tie
-use Rattle.linker.proofs.has_name.Reads as reads
-use Rattle.linker.proofs.has_name.Lts as lts
-use Rattle.tables.proofs.at.Reads as at-reads
+use Rattle.formtable.proofs.has_name.Statement.{statement}
+use Rattle.formtable.proofs.has_name.Tie as tie
 
 -- let i = d as usize * 4;
 mul-i : tie.Need-mul-i
 mul-i c = search needs
 
--- if tables::at(defs, i) != lo {
+-- if tables::at(definitions, i) != lo {
 at-requires : tie.Need-at-requires
 at-requires c κs = search needs
 
@@ -20,15 +16,15 @@ at-requires c κs = search needs
 returns : tie.Need-returns
 returns c = search name-no
 
--- tables::at(defs, i + 1) == hi
+-- tables::at(definitions, i + 1) == hi
 add-at : tie.Need-add-at
 add-at c = search needs
 
--- tables::at(defs, i + 1) == hi
+-- tables::at(definitions, i + 1) == hi
 at-requires-2 : tie.Need-at-requires-2
 at-requires-2 c κs = search needs
 
--- fn has_name(defs: &[u32], d: u32, lo: u32, hi: u32) -> bool
+-- pub fn has_name(definitions: &[u32], d: u32, lo: u32, hi: u32) -> bool
 returns-2 : tie.Need-returns-2
 returns-2 c = search name-same
 
