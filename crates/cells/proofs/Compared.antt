@@ -9,11 +9,11 @@ use borrow.Author.Tests.{eq-eqb, ne-eqb}
 use Rattle.language.specs.Bytes.{bytes, sameBytes}
 use Rattle.language.specs.Objects.{Obj, symbol, truth, truthOf, isT, isF, neither}
 use Rattle.language.specs.Accepted.{IsSymbol}
-use Rattle.language.specs.Packing.{packed, letterOf}
+use Rattle.packing.specs.Packing.{packed, letterOf}
 use Rattle.language.specs.declared.Val.{Val}
 use Rattle.language.proofs.Bytes.{same-bytes-is, same-bytes-refl}
 use Rattle.cells.specs.Cells.{Rep, rep-pos, rep-neg, rep-symbol, rep-nil, rep-more}
-use Rattle.cells.proofs.Packing.{symbols-same}
+use Rattle.packing.proofs.Packed.{symbols-same}
 
 -- ---- bytes
 -- a test that is true exactly if both are equal

@@ -1,6 +1,5 @@
 pub mod Reps
 pub mod Places
-pub mod Packing
 pub mod Inversions
 pub mod Encoded
 pub mod Lengths

@@ -7,7 +7,7 @@ use lib.ListN.{getD, length}
 use Rattle.language.specs.Numbers.{half, one}
 use Rattle.language.specs.Objects.{Obj, int, symbol, seq, Objs, nil, _::_, lengthOf}
 use Rattle.language.specs.Accepted.{IsSymbol}
-use Rattle.language.specs.Packing.{packed}
+use Rattle.packing.specs.Packing.{packed}
 use Rattle.language.specs.declared.Val.{Val}
 use Rattle.language.specs.declared.Meter.{Meter}
 use Rattle.tables.specs.Tables.{field, recordPut}

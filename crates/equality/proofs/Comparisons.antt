@@ -9,7 +9,7 @@ use borrow.Author.Tests.{le-leb, lt-leb, leb-true, leb-false, eq-eqb, ne-eqb}
 use Rattle.language.specs.Bytes.{sameBytes}
 use Rattle.language.specs.Objects.{Obj, int, symbol, seq, Objs, nil, _::_}
 use Rattle.language.specs.Meanings.{Looked, look, lookAlong, onward}
-use Rattle.language.specs.Packing.{packed}
+use Rattle.packing.specs.Packing.{packed}
 use Rattle.language.specs.Charging.{stepCharge}
 use Rattle.language.specs.declared.Meter.{Meter}
 use Rattle.language.specs.declared.Val.{Val}
@@ -19,7 +19,7 @@ use Rattle.language.proofs.Bytes.{same-bytes-is, same-bytes-refl}
 use Rattle.language.proofs.Charging.{meter-same, step-granted, step-spent}
 use Rattle.cells.specs.Cells.{Rep, rep-pos, rep-neg, rep-symbol, rep-nil, rep-more}
 use Rattle.cells.specs.Parts.{Sized, Headed, Tailed}
-use Rattle.cells.proofs.Packing.{symbols-same}
+use Rattle.packing.proofs.Packed.{symbols-same}
 use Rattle.equality.specs.declared.Compared.{Compared}
 use Rattle.equality.specs.declared.Compared.the-variants.{Equal, Differ, Out}
 use Rattle.equality.specs.Looking.{stepsTaken, ended, after, Fewer, NoMore, Falls, Sinks, Looks, LooksAlong}

@@ -15,7 +15,7 @@ use Rattle.language.specs.Objects.{Obj}
 use Rattle.language.specs.Forms.{Form, word, name, constant, select, selectRight, op}
 use Rattle.language.specs.Words.{Op}
 use Rattle.language.specs.Tokens.{byteAt, placeFrom}
-use Rattle.language.specs.Packing.{packed}
+use Rattle.packing.specs.Packing.{packed}
 use Rattle.language.specs.Judging.{Judged, is, isNot, judgePart, refusalOf}
 use Rattle.language.specs.Reading.{Got, got, no, andThen, wordAt, mark, calls}
 use Rattle.theorems.proofs.Outcomes.{MeetsWord, meetsWord}

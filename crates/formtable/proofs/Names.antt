@@ -9,10 +9,10 @@ use lib.ListN.{getD}
 use borrow.Author.Tests.{eqb-true, eq-eqb, ne-eqb}
 use Rattle.language.specs.Bytes.{sameBytes}
 use Rattle.language.specs.Accepted.{IsName}
-use Rattle.language.specs.Packing.{packed}
+use Rattle.packing.specs.Packing.{packed}
 use Rattle.language.proofs.Bytes.{same-bytes-is, same-bytes-refl}
 use Rattle.tables.specs.Tables.{field}
-use Rattle.lexer.proofs.Packed.{names-equal}
+use Rattle.packing.proofs.Packed.{names-equal}
 use Rattle.formtable.specs.Encoding.{lowOf, highOf, named}
 
 -- the test of two numbers by halves is one that is true exactly if they are equal

@@ -9,7 +9,7 @@ use lib.Seq.{drop-drop, drop-append-seam}
 use Rattle.language.specs.Objects.{Obj, cellsOf}
 use Rattle.language.specs.Forms.{Form, word, name, chain, construct, constant, insert, applyAll, bu, condition, while, Forms, stop, _&_, _+&_, Word, select, selectRight, op, Def, Prog, count, formsIn, formsInAll, formsOf, constantCells, constantCellsAll, programCells}
 use Rattle.language.specs.Accepted.{IsObj, IsForm, AreForms, AreDefinitions}
-use Rattle.language.specs.Packing.{packed}
+use Rattle.packing.specs.Packing.{packed}
 use Rattle.language.specs.declared.Val.{Val}
 use Rattle.tables.specs.Tables.{put}
 use Rattle.lexer.specs.Vocabulary.{opCode}

@@ -8,7 +8,7 @@ use lib.ListN.{getD}
 use Rattle.language.specs.Objects.{Obj}
 use Rattle.language.specs.Forms.{Form, word, name, chain, construct, constant, insert, applyAll, bu, condition, while, Forms, stop, _&_, Word, select, selectRight, op, Def, Prog, count, formsIn, constantCells}
 use Rattle.language.specs.Reading.{Placed}
-use Rattle.language.specs.Packing.{packed}
+use Rattle.packing.specs.Packing.{packed}
 use Rattle.language.specs.declared.Val.{Val}
 use Rattle.tables.specs.Tables.{field}
 use Rattle.lexer.specs.Vocabulary.{opCode}

@@ -15,4 +15,3 @@ pub mod Uses
 pub mod Accepted
 pub mod Answers
 pub mod Fprun
-pub mod Packing

@@ -28,10 +28,11 @@ use Rattle.lexer.specs.declared.PartJudged.the-variants as P
 use Rattle.lexer.specs.declared.NameJudged.the-variants as N
 use Rattle.lexer.specs.Classes.{testOf}
 use Rattle.lexer.specs.Readings.{Spanned, Sized}
-use Rattle.language.specs.Packing.{packed}
+use Rattle.packing.specs.Packing.{packed}
 use Rattle.lexer.specs.Vocabulary.{opCode, codeOf}
 use Rattle.lexer.specs.Judgements.{atomVal, atomJudged, formJudged, partJudged, nameJudged, judgeSymbol, judgePlain, WordJudged}
-use Rattle.lexer.proofs.Spans.{all-yes, all-no, span-le, slice-first, slice-none}
+use Rattle.packing.proofs.Slices.{slice-first}
+use Rattle.lexer.proofs.Spans.{all-yes, all-no, span-le, slice-none}
 use Rattle.lexer.proofs.Sizes.{within, size-past}
 use Rattle.lexer.proofs.Values.{value-grows}
 use Rattle.lexer.proofs.Words.{code-below, same-not}

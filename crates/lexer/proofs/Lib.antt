@@ -2,7 +2,6 @@
 pub mod Spans
 pub mod Sizes
 pub mod Values
-pub mod Packed
 pub mod Computed
 pub mod Words
 pub mod Judged

@@ -8,6 +8,7 @@ use native.Mathlib.Omega.{arith}
 use borrow.Author.Tests.{not-true, not-false}
 use lib.ListN.{length, getD, take, drop, drop-of-length-le}
 use lib.Seq.{slice, slice-cons, slice-empty, length-slice, length-take-le, take-length}
+use Rattle.packing.proofs.Slices.{slice-first}
 use Rattle.language.specs.Tokens.{span}
 use Rattle.language.specs.Judging.{all}
 use Rattle.lexer.specs.declared.Class.{Class}
@@ -61,10 +62,6 @@ slice-none s from to fits h = drop-of-length-le (take to s) {i = from} (rw (leng
 -- the part that goes to the text's end
 pub slice-rest : (s : List ℕ) (from : ℕ) → slice from (length s) s ≡ drop from s
 slice-rest s from = rw (take-length s)
-
--- a part with its first byte
-pub slice-first : (s : List ℕ) (from to : ℕ) → from < to → to ≤ length s → slice from to s ≡ getD s from 0 ∷ slice (from + 1) to s
-slice-first s from to h fits = rw (add-one, slice-cons from to s 0 h fits)
 
 module _ (class : Class) (s : List ℕ) (from to i : ℕ) where
   turn : i < to → to ≤ length s → testOf class (getD s i 0) ≡ true → i + span (testOf class) (slice i to s) ≡ i + 1 + span (testOf class) (slice (i + 1) to s)

@@ -7,7 +7,7 @@ use native.Mathlib.Omega.{arith}
 use lib.ListN.{length, getD}
 use lib.Seq.{slice, slice-empty}
 use Rattle.language.specs.Judging.{valueFrom}
-use Rattle.lexer.proofs.Spans.{slice-first}
+use Rattle.packing.proofs.Slices.{slice-first}
 
 step : (v b : ℕ) (w : List ℕ) → valueFrom v (b ∷ w) ≡ valueFrom (v * 10 + (b - 48)) w
 unfolding valueFrom

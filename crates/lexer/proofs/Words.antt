@@ -16,7 +16,8 @@ use Rattle.language.specs.Words as W
 use Rattle.language.specs.Judging.{findOp}
 use Rattle.lexer.specs.Vocabulary.{opCode, codeOf, ruleCode, rowOf, rowByte, Rows, spelledAt, ruleAt}
 use Rattle.lexer.proofs.Computed.{at, every}
-use Rattle.lexer.proofs.Spans.{slice-first, slice-none}
+use Rattle.packing.proofs.Slices.{slice-first}
+use Rattle.lexer.proofs.Spans.{slice-none}
 
 -- Every word stands in the table, at its code.
 placed : (o : Op) → (getD ops (opCode o) W.id ≡ o) × T (ltb (opCode o) 23)

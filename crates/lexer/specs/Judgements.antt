@@ -14,7 +14,7 @@ use Rattle.lexer.specs.declared.PartJudged.{PartJudged}
 use Rattle.lexer.specs.declared.PartJudged.the-variants as P
 use Rattle.lexer.specs.declared.NameJudged.{NameJudged}
 use Rattle.lexer.specs.declared.NameJudged.the-variants as N
-use Rattle.language.specs.Packing.{packed}
+use Rattle.packing.specs.Packing.{packed}
 use Rattle.lexer.specs.Vocabulary.{opCode}
 
 -- an atom as code holds it; a sequence is none

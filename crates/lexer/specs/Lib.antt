@@ -1,6 +1,5 @@
 -- The definitions that lexer's contracts cite.
 pub mod Classes
 pub mod Readings
-pub mod Packing
 pub mod Vocabulary
 pub mod Judgements

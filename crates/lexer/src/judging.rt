@@ -14,7 +14,6 @@ use super::NameJudged;
 use super::PartJudged;
 use super::classes;
 use super::numbers;
-use super::packing;
 use super::reader;
 use super::vocabulary;
 use language::Val;

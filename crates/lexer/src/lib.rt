@@ -1,9 +1,8 @@
 // The word reader: where the next word, number or mark of a text stands, and what it is where an object, a part or a
-// defined name may stand. Words of up to 12 letters and digits are kept as numbers.
+// defined name may stand.
 mod classes;
 mod judging;
 mod numbers;
-mod packing;
 mod reader;
 mod vocabulary;
 
@@ -21,8 +20,6 @@ pub use judging::judge_name;
 pub use judging::judge_part;
 pub use judging::refusal;
 pub use numbers::value;
-pub use packing::pack;
-pub use packing::unpack;
 pub use reader::next_word;
 pub use reader::size_at;
 pub use reader::skip_blanks;
@@ -41,12 +38,6 @@ pub enum Class {
     Symbol,
     // lower-case letters and digits
     Name,
-}
-
-// How a packed word is written.
-pub enum Case {
-    Upper,
-    Lower,
 }
 
 // What stands where an object may stand: an atom, or the number of the answer that refuses it.

@@ -6,7 +6,7 @@ use mathlib.Core.List.{List}
 use lib.ListN.{getD, length, set, length-set}
 use lib.Seq.{getD-set-same, getD-set-other}
 use borrow.Author.Tests.{lt-ltb, le-ltb}
-use Rattle.language.specs.Packing.{packed}
+use Rattle.packing.specs.Packing.{packed}
 use Rattle.language.specs.Forms.{Form, name, chain, Forms, stop, _&_, _+&_, count}
 use Rattle.language.specs.Accepted.{IsForm, AreForms}
 use Rattle.tables.specs.Tables.{field}

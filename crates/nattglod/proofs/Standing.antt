@@ -21,7 +21,7 @@ use Rattle.formtable.specs.Encoding.{encodeProgram, programConstants}
 use Rattle.formtable.specs.Standing.{Stands, bodies}
 use Rattle.formtable.proofs.Lengths.{length-program-constants}
 use Rattle.formtable.proofs.Stood.{program-stands}
-use Rattle.machine.specs.Mains.{Loaded}
+use Rattle.program_runner.specs.Mains.{Loaded}
 use Rattle.nattglod.specs.Stages.{ProgramLies, Small, withoutCells}
 
 -- ---- what was put in front stays in front of what is put behind it

@@ -23,7 +23,7 @@ use Rattle.programs.specs.declared.ProgramRead.{ProgramRead}
 use Rattle.programs.specs.declared.ProgramRead.the-variants as P
 use Rattle.programs.specs.Definitions.{ProgramLaid, ProgramMet, program-read, program-refused}
 use Rattle.primitives.specs.declared.Ended.{Ended}
-use Rattle.machine.specs.Mains.{MainApplied}
+use Rattle.program_runner.specs.Mains.{MainApplied}
 use Rattle.nattglod.specs.Calls.{lends, Sized, TextsAnswered}
 use Rattle.nattglod.specs.Stages.{Small, withoutCells, ObjectAnswered, MainAnswered, EndMet}
 use Rattle.nattglod.proofs.Exits as Exits

@@ -17,7 +17,7 @@ use Rattle.cells.specs.Cells.{Rep, Room, free}
 use Rattle.primitives.specs.declared.Ended.{Ended}
 use Rattle.primitives.specs.Ends.{Gives}
 use Rattle.programs.specs.Definitions.{ProgramLaid}
-use Rattle.machine.specs.Mains.{Loaded}
+use Rattle.program_runner.specs.Mains.{Loaded}
 use Rattle.nattglod.specs.Calls.{budgets, lends, TextsAnswered, EndAnswered}
 
 -- the last of the early refusals, by the budgeted cells and the lengths of both tables

@@ -32,7 +32,7 @@ fn answer_main(
         names: b.names,
         cells: b.cells - used,
     };
-    let ended = machine::apply_main(forms, total as u32, definitions, many as u32, c, v, m);
+    let ended = program_runner::apply_main(forms, total as u32, definitions, many as u32, c, v, m);
     ends::answer_end(b, c, ended, output)
 }
 

@@ -9,12 +9,12 @@ use lib.Seq.{slice, take-append-seam}
 use Rattle.language.specs.Tokens.{isDigit, isUpper}
 use Rattle.language.specs.Judging.{isSymbolByte}
 use Rattle.language.specs.Accepted.{IsSymbol}
-use Rattle.language.specs.Packing.{packed}
+use Rattle.packing.specs.Packing.{packed}
 use Rattle.theorems.proofs.Texts.{all-weaken, digit-range, upper-range, or-cases}
-use Rattle.cells.proofs.Packing.{symbol-bytes}
-use Rattle.lexer.specs.declared.Case.the-variants.{Upper}
-use Rattle.lexer.specs.Packing.{unpacked, Unpacked}
-use Rattle.lexer.proofs.Packed.{symbol-back}
+use Rattle.packing.proofs.Packed.{symbol-bytes}
+use Rattle.packing.specs.declared.Case.the-variants.{Upper}
+use Rattle.packing.specs.Packing.{unpacked, Unpacked}
+use Rattle.packing.proofs.Packed.{symbol-back}
 use Rattle.objects.specs.Writings.{isFlat, TextWalked, SymbolWalked}
 use Rattle.objects.specs.declared.Written.{Written}
 use Rattle.objects.proofs.Walks.{flat-is}

@@ -10,7 +10,7 @@ use Rattle.language.specs.Numbers.{writtenLimit}
 use Rattle.language.specs.Objects.{Obj, seq, Objs, _::_}
 use Rattle.language.specs.Judging.{all}
 use Rattle.language.specs.Accepted.{IsSymbol}
-use Rattle.language.specs.Packing.{packed}
+use Rattle.packing.specs.Packing.{packed}
 use Rattle.language.specs.Writing.{decimal, writeObj, writeObjs, Scan, on, short, deep, scan, openBehind}
 use Rattle.language.specs.declared.Val.{Val}
 use Rattle.tables.specs.Tables.{put}

@@ -10,7 +10,7 @@ ghost use Rattle.objects.specs.Writings.{PutByte, PutText, TextWalked, M
 use super::Written;
 use super::integers;
 use language::Val;
-use lexer::Case;
+use packing::Case;
 
 // Writes b at the place `at`, where the output has room.
 fn put_byte(out: &mut [u8], at: usize, b: u8)
@@ -81,7 +81,7 @@ fn walk_symbol(out: &mut [u8], at: usize, cap: usize, word: u64) -> Written
     ensures { λ r. ⌜ SymbolWalked word at cap r (now (out .entry)) (now (out .exit)) ⌝ }
 {
     let mut a = [0u8; 12];
-    let n = lexer::unpack(word, Case::Upper, &mut a);
+    let n = packing::unpack(word, Case::Upper, &mut a);
     walk_text(out, at, cap, &a, 0, n)
 }
 

@@ -18,7 +18,7 @@ use Rattle.language.specs.declared.Val.{Val}
 use Rattle.theorems.proofs.Texts.{all-weaken}
 use Rattle.theorems.proofs.Decimals.{decimal-digits}
 use Rattle.cells.specs.Cells.{Rep}
-use Rattle.cells.proofs.Packing.{symbol-bytes}
+use Rattle.packing.proofs.Packed.{symbol-bytes}
 use Rattle.cells.proofs.Inversions.{rep-object}
 use Rattle.objects.specs.Writings.{Walked, fits, too-long, too-deep, isFlat, ObjectWalked}
 use Rattle.objects.proofs.Walks.{flat-of}

@@ -7,7 +7,7 @@ use native.Mathlib.Omega.{arith}
 use lib.ListN.{length, drop}
 use Rattle.language.specs.Forms.{Def, Prog}
 use Rattle.language.specs.Accepted.{AreDefinitions}
-use Rattle.language.specs.Packing.{packed}
+use Rattle.packing.specs.Packing.{packed}
 use Rattle.language.specs.Writing.{writeForm, writeProgram, marksOf, marksOfProgram}
 use Rattle.tables.specs.Tables.{put}
 use Rattle.formtable.specs.Standing.{Stands, bodies}

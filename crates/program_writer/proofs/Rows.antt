@@ -13,7 +13,7 @@ use Rattle.language.specs.Bytes.{bytes}
 use Rattle.language.specs.Objects.{Obj, int}
 use Rattle.language.specs.Forms.{Form, word, chain, construct, constant, insert, bu, condition, while}
 use Rattle.language.specs.Accepted.{IsName}
-use Rattle.language.specs.Packing.{packed}
+use Rattle.packing.specs.Packing.{packed}
 use Rattle.language.specs.Writing.{writeObj, writeInteger, writeWord, decimal}
 use Rattle.language.specs.declared.Val.{Val}
 use Rattle.cells.specs.Cells.{Rep, rep-pos}
@@ -21,8 +21,8 @@ use Rattle.cells.proofs.Reps.{val-same}
 use Rattle.cells.proofs.Inversions.{tag-low}
 use Rattle.lexer.specs.Vocabulary.{opCode, spelledAt}
 use Rattle.lexer.specs.Packing as lexed
-use Rattle.lexer.specs.declared.Case.the-variants.{Lower}
-use Rattle.lexer.proofs.Packed.{name-back}
+use Rattle.packing.specs.declared.Case.the-variants.{Lower}
+use Rattle.packing.proofs.Packed.{name-back}
 use Rattle.lexer.proofs.Words.{spelled-of, code-below}
 use Rattle.formtable.specs.Standing.{kindAt, wordAt, Row, row-op, row-select, row-selectRight, row-name, row-chain, row-construct, row-insert, row-applyAll, row-condition, row-while, row-constant, row-bu}
 use Rattle.program_writer.specs.Layout.{takesPart, takesKind, opening, behindPart, behindChain, behindConstruct, behindCondition, behindWhile, ending}

@@ -7,7 +7,7 @@ use lib.ListN.{length, drop, getD}
 use Rattle.language.specs.Numbers.{formLimit, markLimit, writtenLimit}
 use Rattle.language.specs.Forms.{Forms, _&_, Def, Prog}
 use Rattle.language.specs.Accepted.{IsName, AreDefinitions}
-use Rattle.language.specs.Packing.{packed}
+use Rattle.packing.specs.Packing.{packed}
 use Rattle.language.specs.Writing.{writeForm, writeProgram, marksOfProgram}
 use Rattle.tables.specs.Tables.{field}
 use Rattle.formtable.specs.Standing.{Stands, bodies}

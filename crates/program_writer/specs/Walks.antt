@@ -8,7 +8,7 @@ use Rattle.language.specs.Numbers.{formLimit, markLimit, writtenLimit}
 use Rattle.language.specs.Objects.{Obj}
 use Rattle.language.specs.Forms.{Form, Forms, stop, _&_, _+&_, count}
 use Rattle.language.specs.Accepted.{IsName, IsForm}
-use Rattle.language.specs.Packing.{packed}
+use Rattle.packing.specs.Packing.{packed}
 use Rattle.language.specs.Writing.{writeObj, writeForm, marksOf, marksOfObj}
 use Rattle.language.specs.declared.Val.{Val}
 use Rattle.tables.specs.Tables.{put}

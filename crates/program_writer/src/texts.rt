@@ -65,7 +65,7 @@ pub fn walk_name(word: u64, out: &mut [u8], at: usize) -> usize
     ensures { λ r. ⌜ NameWalked word at r (now (out .entry)) (now (out .exit)) ⌝ }
 {
     let mut letters = [0u8; 12];
-    let n = lexer::unpack(word, lexer::Case::Lower, &mut letters);
+    let n = packing::unpack(word, packing::Case::Lower, &mut letters);
     walk_bytes(&letters, n, out, at)
 }
 

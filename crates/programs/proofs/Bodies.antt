@@ -9,7 +9,7 @@ use lib.ListN.{length}
 use lib.Seq.{slice}
 use Rattle.language.specs.Forms.{Form, formsIn, constantCells}
 use Rattle.language.specs.Accepted.{IsName}
-use Rattle.language.specs.Packing.{packed}
+use Rattle.packing.specs.Packing.{packed}
 use Rattle.language.specs.Tokens.{placeFrom, sizeAt}
 use Rattle.language.specs.Judging.{Judged, is, isNot, judgeName}
 use Rattle.language.specs.Numbers.{markLimit}

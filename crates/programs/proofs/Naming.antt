@@ -11,7 +11,7 @@ use borrow.Author.Tests.{eqb-true, eqb-false}
 use Rattle.language.specs.Bytes.{sameBytes}
 use Rattle.language.specs.Forms.{Prog, formsIn}
 use Rattle.language.specs.Accepted.{IsName}
-use Rattle.language.specs.Packing.{packed}
+use Rattle.packing.specs.Packing.{packed}
 use Rattle.language.specs.Reading.{Got, no, Placed, isIn, noneTwice}
 use Rattle.tables.specs.Tables.{put, field}
 use Rattle.tables.proofs.Put.{put-inside}

@@ -6,7 +6,7 @@ use mathlib.Core.List.{List, [], _∷_, map}
 use lib.ListN.{length, getD}
 use Rattle.language.specs.Forms.{Prog, formsOf, programCells}
 use Rattle.language.specs.Accepted.{IsName}
-use Rattle.language.specs.Packing.{packed}
+use Rattle.packing.specs.Packing.{packed}
 use Rattle.language.specs.Reading.{Got, got, no, Placed, programOf, isIn, noneTwice, calls, readDefinitions}
 use Rattle.tables.specs.Tables.{put, field, recordPut}
 use Rattle.formtable.specs.Encoding.{lowOf, highOf, encodeProgram, programConstants, encodeDefinitions}

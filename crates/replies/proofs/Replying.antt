@@ -17,13 +17,13 @@ use Rattle.language.specs.declared.Answer.{Answer}
 use Rattle.theorems.proofs.Texts.{drop-take}
 use Rattle.tables.specs.Tables.{put}
 use Rattle.tables.proofs.Put.{length-put}
-use Rattle.lines.specs.Budgets.{budgetsOf, BudgetsRead}
-use Rattle.lines.specs.Cutting.{LinesCut, three-lines, other-shape}
-use Rattle.lines.specs.Printing.{Printed, shownAs}
-use Rattle.lines.specs.declared.Budgets.{Budgets}
-use Rattle.lines.specs.declared.Budgets.the-variants as B
-use Rattle.lines.specs.declared.Lines.{Lines}
-use Rattle.lines.specs.declared.Lines.the-variants.{Three, Other}
+use Rattle.call_lines.specs.Budgets.{budgetsOf, BudgetsRead}
+use Rattle.call_lines.specs.Cutting.{LinesCut, three-lines, other-shape}
+use Rattle.call_lines.specs.Printing.{Printed, shownAs}
+use Rattle.call_lines.specs.declared.Budgets.{Budgets}
+use Rattle.call_lines.specs.declared.Budgets.the-variants as B
+use Rattle.call_lines.specs.declared.Lines.{Lines}
+use Rattle.call_lines.specs.declared.Lines.the-variants.{Three, Other}
 use Rattle.nattglod.specs.Calls.{budgets, lends, RunAnswered}
 use Rattle.replies.specs.Replies.{Replied, CellsLent, LinesEnd, callReply, linesReply}
 use Rattle.replies.proofs.Alike.{same-shown, alike-call, same-refused}

@@ -2,12 +2,12 @@
 ghost use Prim.Native.Nat.{_+_, _≤_};
 ghost use lib.ListN.{length};
 ghost use lib.Seq.{slice};
-ghost use Rattle.lines.specs.Printing.{Printed};
+ghost use Rattle.call_lines.specs.Printing.{Printed};
 ghost use Rattle.replies.specs.Replies.{Replied, CellsLent, LinesEnd, callReply, linesReply};
 use super::buffers;
 use language::Meter;
-use lines::Budgets;
-use lines::Lines;
+use call_lines::Budgets;
+use call_lines::Lines;
 
 // How much of the cell table is lent for so many cells; over the limit none.
 fn cells_lent(cells: u32) -> usize
@@ -35,7 +35,7 @@ fn answer_call(program: &[u8], object: &[u8], m: Meter, out: &mut [u8]) -> usize
         &mut table[..n],
         &mut output,
     );
-    lines::print_answer(out, a, &output)
+    call_lines::print_answer(out, a, &output)
 }
 
 // The three lines end at `first`, `second` and `third`: budgets, program, object.
@@ -43,8 +43,8 @@ fn answer_lines(s: &[u8], first: usize, second: usize, third: usize, out: &mut [
     requires { ⌜ LinesEnd (now s) first second third (now out) ⌝ }
     ensures { λ r. ⌜ Printed (linesReply (slice 0 first (now (s .entry))) (slice (first + 1) second (now (s .entry))) (slice (second + 1) third (now (s .entry)))) 16451 (now (out .entry)) 0 r (now (out .exit)) ⌝ }
 {
-    let m = match lines::read_budgets(s, first) {
-        Budgets::Not => return lines::print_other(out),
+    let m = match call_lines::read_budgets(s, first) {
+        Budgets::Not => return call_lines::print_other(out),
         Budgets::Are(m) => m,
     };
     let program = first + 1;
@@ -57,10 +57,10 @@ pub fn answer_input(s: &[u8], out: &mut [u8; 16451]) -> usize
     ensures { λ r. ⌜ Replied (now (s .entry)) r (now (out .exit)) ⌝ }
 {
     if 25000 < s.len() {
-        return lines::print_other(out);
+        return call_lines::print_other(out);
     }
-    match lines::cut_lines(s) {
-        Lines::Other => lines::print_other(out),
+    match call_lines::cut_lines(s) {
+        Lines::Other => call_lines::print_other(out),
         Lines::Three(first, second, third) => answer_lines(s, first, second, third, out),
     }
 }

@@ -8,7 +8,7 @@ fn print(text: &[u8]) {
 
 fn print_answer(a: Answer) {
     let mut line = [0u8; 66];
-    let n = lines::print_numbers(&mut line, a);
+    let n = call_lines::print_numbers(&mut line, a);
     print(&line[..n]);
 }
 
