@@ -43,23 +43,24 @@ fn empty() -> [u32; 384]
 }
 
 // The index of the first `count` definitions, made from the last to the first. A link is how many definitions there are
-// from the one that it leads to on, 0 for none. Beyond 128 definitions nothing is promised.
+// from the one that it leads to on, 0 for none. The link of the definition with `left` from it on stands at left + 255.
+// Beyond 128 definitions nothing is promised.
 pub fn index(defs: &[u32], count: u32) -> [u32; 384]
     ensures { λ r. ⌜ Indexed (now (defs .entry)) count r ⌝ }
 {
-    let mut x = empty();
+    let mut links = empty();
     if MOST < count {
-        return x;
+        return links;
     }
     let mut left: u32 = 0;
     while left < count {
         left += 1;
         let first = (tables::at(defs, (count - left) as usize * 4) % ALIKE) as usize;
-        let behind = tables::at(&x, first);
-        tables::store(&mut x, left as usize + 255, behind);
-        tables::store(&mut x, first, left);
+        let behind = tables::at(&links, first);
+        tables::store(&mut links, left as usize + 255, behind);
+        tables::store(&mut links, first, left);
     }
-    x
+    links
 }
 
 // The same as root_of, by the index; beyond 128 definitions one by one.

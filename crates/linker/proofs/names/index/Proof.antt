@@ -6,16 +6,16 @@ use Rattle.linker.proofs.names.index.Statement.{statement}
 use Rattle.linker.proofs.names.index.Tie as tie
 
 abbrev Inv-loop : tie.InvT-loop
-Inv-loop defs count x₀ left₀ x left = Indexing defs count x left
+Inv-loop defs count links₀ left₀ links left = Indexing defs count links left
 
 abbrev μ-loop : tie.MeasureT-loop
-μ-loop defs count x₀ left₀ x left = count - left
+μ-loop defs count links₀ left₀ links left = count - left
 
--- let mut x = empty();
+-- let mut links = empty();
 empty-requires : tie.Need-empty-requires Inv-loop μ-loop
 empty-requires c κs = search needs
 
--- return x;
+-- return links;
 returns : tie.Need-returns Inv-loop μ-loop
 returns c = search index-far
 
@@ -47,35 +47,35 @@ at-requires c κs = search needs
 cast-first : tie.Need-cast-first Inv-loop μ-loop
 cast-first c = search needs
 
--- let behind = tables::at(&x, first);
+-- let behind = tables::at(&links, first);
 slice-aggregate-at : tie.Need-slice-aggregate-at Inv-loop μ-loop
 slice-aggregate-at c = search needs
 
--- let behind = tables::at(&x, first);
+-- let behind = tables::at(&links, first);
 at-requires-2 : tie.Need-at-requires-2 Inv-loop μ-loop
 at-requires-2 c κs = search needs
 
--- tables::store(&mut x, left as usize + 255, behind);
+-- tables::store(&mut links, left as usize + 255, behind);
 slice-aggregate-store : tie.Need-slice-aggregate-store Inv-loop μ-loop
 slice-aggregate-store c = search needs
 
--- tables::store(&mut x, left as usize + 255, behind);
+-- tables::store(&mut links, left as usize + 255, behind);
 cast-store : tie.Need-cast-store Inv-loop μ-loop
 cast-store c = search needs
 
--- tables::store(&mut x, left as usize + 255, behind);
+-- tables::store(&mut links, left as usize + 255, behind);
 add-store : tie.Need-add-store Inv-loop μ-loop
 add-store c = search needs
 
--- tables::store(&mut x, left as usize + 255, behind);
+-- tables::store(&mut links, left as usize + 255, behind);
 store-requires : tie.Need-store-requires Inv-loop μ-loop
 store-requires c κs = search needs
 
--- tables::store(&mut x, first, left);
+-- tables::store(&mut links, first, left);
 slice-aggregate-store-2 : tie.Need-slice-aggregate-store-2 Inv-loop μ-loop
 slice-aggregate-store-2 c = search needs
 
--- tables::store(&mut x, first, left);
+-- tables::store(&mut links, first, left);
 store-requires-2 : tie.Need-store-requires-2 Inv-loop μ-loop
 store-requires-2 c κs = search needs
 
