@@ -1,28 +1,26 @@
 -- Constructions and apply to all in the tables against the definition.
-use Prim.Native.Nat.{ℕ, zero, suc, _+_, _-_, _*_, _≤_, _<_, _%_}
+use Prim.Native.Nat.{ℕ, _+_, _-_, _≤_, _<_, _%_}
 use native.Mathlib.Omega.{arith}
-use mathlib.Core.Path.{_≡_, refl, sym, ap, subst, _∙_}
-use mathlib.Core.List.{List, [], _∷_}
+use mathlib.Core.Path.{_≡_, refl, ap, subst, _∙_}
+use mathlib.Core.List.{List}
 use lib.ListN.{length}
-use Rattle.language.specs.Objects.{Obj, int, symbol, seq, Objs, nil, _::_, lengthOf}
-use Rattle.language.specs.Forms.{op, select, selectRight, Form, word, name, chain, construct, constant, insert, applyAll, bu, condition, while, Forms, stop, _&_, count}
-use Rattle.language.specs.Meanings.{one, pair}
+use Rattle.language.specs.Objects.{Obj, seq, Objs, nil, _::_, lengthOf}
+use Rattle.language.specs.Forms.{Form, Forms, stop, _&_, count}
 use Rattle.language.specs.declared.Meter.{Meter}
-use Rattle.language.specs.declared.Charge.{Charge}
-use Rattle.language.specs.declared.Charge.the-variants.{Granted, Spent}
 use Rattle.language.specs.declared.Val.{Val}
 use Rattle.primitives.specs.declared.Ended.{Ended}
 use Rattle.primitives.specs.declared.Ended.the-variants.{Done, Stop}
-use Rattle.evaluator.specs.Ring.{Kept, Finished, Stopped, fell, ran-out, Ends, ends-done, ends-stop}
+use Rattle.evaluator.specs.Ring.{Stopped, fell, Ends, ends-stop}
 use Rattle.language.specs.Evaluation.{Out, value, bottom, bind, constructBy, eachBy, gathered, applyAllOn}
-use Rattle.cells.specs.Cells.{Rep, rep-pos, rep-neg, rep-symbol, rep-nil, rep-more, Room, free}
+use Rattle.cells.specs.Cells.{Rep, rep-pos, rep-neg, rep-symbol, rep-nil, rep-more, free}
 use Rattle.cells.specs.Parts.{holdAt, Sized, Headed, Tailed}
 use Rattle.cells.proofs.Reps.{rep-ext}
-use Rattle.linker.specs.Linked.{PartsAt, no-part, a-part, linkAt}
-use Rattle.evaluator.specs.Applying.{Setting, by, At, AllAt, Given, Applied, Falls, Sinks, Built, Mapped, PutAt, Slotted, Collected}
+use Rattle.cells.proofs.Ring.{hold-length}
+use Rattle.linker.specs.Linked.{no-part, a-part, linkAt}
+use Rattle.evaluator.specs.Applying.{Setting, by, At, AllAt, Given, Applied, Built, Mapped, Slotted, Collected}
 use Rattle.primitives.proofs.Ending.{agree-self}
-use Rattle.evaluator.proofs.Steps.{Since, since, since-refl, free-up, gave, gave-stop, ends-eq, stopped-eq, given-next, given-again, given-held, few-cells, applied-as, sinks-le}
-use Rattle.evaluator.proofs.Waits.{Waiting, wait-start, wait-next, wait-stop, wait-closed, length-hold}
+use Rattle.evaluator.proofs.Steps.{since-refl, free-up, gave, gave-stop, ends-eq, given-next, given-again, given-held, few-cells, applied-as, sinks-le}
+use Rattle.evaluator.proofs.Waits.{Waiting, wait-start, wait-next, wait-stop, wait-closed}
 
 -- ---- a value that waits
 pub slot-done : {F C W C₁ W₁ W₂ : List ℕ} {t i : ℕ} {v y : Val} {m k : Meter} {r : Ended} → Applied F C W t i v m r C₁ W₁ → r ≡ Done y k → W₂ ≡ holdAt W₁ t y → Slotted F C W t i v m (Done y k) C₁ W₂
@@ -65,7 +63,7 @@ step-build : {F Cs Ws C W C₁ W₁ : List ℕ} {top many j : ℕ} {v y : Val} {
 step-build S k q l ct no-part g b a = absurd (omega arith)
 step-build {W₁ = W₁} {top = top} {y = y} {x = x} S k q l ct (a-part {f = f} {fs = fs} fa ps) g b a =
     let u = gave (a .means S k f x fa g) in
-    record { fs = fs; left = omega arith; at = ps; given = given-held (given-again g (a .falls) u) (length-hold W₁ ((top + q) % 4096) y ∙ u .ring); waits = wait-next q (by S k f x) (constructBy (by S k) fs x) (few-cells (g .room) .0) b u }
+    record { fs = fs; left = omega arith; at = ps; given = given-held (given-again g (a .falls) u) (hold-length W₁ ((top + q) % 4096) y ∙ u .ring); waits = wait-next q (by S k f x) (constructBy (by S k) fs x) (few-cells (g .room) .0) b u }
 
 build-next : {F Cs Ws C W C₁ W₁ W₂ : List ℕ} {top h many j j₁ q : ℕ} {v y : Val} {m n n₁ : Meter} → q < many → Building F Cs Ws top h many v m C W j q n → Applied F C W ((top + q) % 4096) j v n (Done y n₁) C₁ W₁ → W₂ ≡ holdAt W₁ ((top + q) % 4096) y → j₁ ≡ linkAt F j → j₁ < 4294967296 → length C₁ ≡ length C → Building F Cs Ws top h many v m C₁ W₂ j₁ (q + 1) n₁
 build-next {q = q} l b a w z fj lc =
@@ -164,7 +162,7 @@ step-map {C = C} {W} {C₁} {W₁} {top} {y = y} {n = n} {n₁} {f} S k q (z :: 
       xs = zs;
       left = omega arith;
       rep = tl .means (free C₁ n₁) z zs (few-cells (p .made .room) .1) (rep-ext (p .made .same) (free-up C C₁ n n₁ (p .made .fewer) (p .made .long)) r);
-      given = given-held (given-again g (a .falls) p) (length-hold W₁ ((top + q) % 4096) y ∙ p .ring);
+      given = given-held (given-again g (a .falls) p) (hold-length W₁ ((top + q) % 4096) y ∙ p .ring);
       waits = wait-next q (by S k f z) (eachBy (by S k) f zs) (few-cells (g .room) .0) b p;
     }
 

@@ -141,7 +141,7 @@ asked-as {F} {C} {W} {C₁} {W₁} {top} {i} {v} {m} e a = subst (λ r. Question
 pub says-fell : {F C W C₁ W₁ : List ℕ} {top h b : ℕ} {v : Val} {m k : Meter} {r : Asked} → Questioned F C W top h v m r C₁ W₁ → r ≡ Says b k → k .steps < m .steps
 says-fell a e = asked-as e a .falls
 
-pub below-says : {F C W C₁ W₁ : List ℕ} {top h b : ℕ} {v : Val} {m k : Meter} {r : Asked} (t : ℕ) → Questioned F C W top h v m r C₁ W₁ → r ≡ Says b k → 4 * m .steps + 3 ≡ t → 4 * k .steps + 1 < t
+pub below-says : {F C W C₁ W₁ : List ℕ} {top h b : ℕ} {v : Val} {m k : Meter} {r : Asked} (t : ℕ) → Questioned F C W top h v m r C₁ W₁ → r ≡ Says b k → 5 * m .steps + 4 ≡ t → 5 * k .steps + 1 < t
 below-says t a e q = omega (arith, says-fell a e)
 
 -- what the question's outcome was

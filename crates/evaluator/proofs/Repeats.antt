@@ -120,5 +120,5 @@ module _ {F Cs Ws C W C₁ W₁ C₂ W₂ : List ℕ} {top h g z : ℕ} {v₀ v 
             };
       }
 
-pub below-turn : {F Cs Ws C W C₁ W₁ : List ℕ} {top h z : ℕ} {v₀ v : Val} {m n n₁ : Meter} {r : Asked} (t : ℕ) → Repeating F Cs Ws top h v₀ m C W v n → Questioned F C W top h v n r C₁ W₁ → r ≡ Says z n₁ → 4 * m .steps + 3 ≡ t → 4 * n₁ .steps + 1 < t
+pub below-turn : {F Cs Ws C W C₁ W₁ : List ℕ} {top h z : ℕ} {v₀ v : Val} {m n n₁ : Meter} {r : Asked} (t : ℕ) → Repeating F Cs Ws top h v₀ m C W v n → Questioned F C W top h v n r C₁ W₁ → r ≡ Says z n₁ → 5 * m .steps + 4 ≡ t → 5 * n₁ .steps + 1 < t
 below-turn t c b e q = omega (arith, says-fell b e, c .sinks)

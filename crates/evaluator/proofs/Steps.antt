@@ -139,18 +139,18 @@ module _ (b : Obj) (m : Meter) (onT onF : Meter → Out Obj) where
   pub decide-none : truthOf b ≡ neither → decide b m onT onF ≡ bottom m
   decide-none e = ap (λ t. elim t [ isT ↦ onT m | isF ↦ onF m | neither ↦ bottom m ]) e
 
--- ---- the measure falls: four times the steps, and 0 to 3 by how far a function is from `step`
-pub below-step : (m k : Meter) (t : ℕ) {ch : Charge} → ch ≡ stepCharge m → ch ≡ Granted k → 4 * m .steps ≡ t → 4 * k .steps + 3 < t
+-- ---- the measure falls: five times the steps, and 0 to 4 by how far a function is from `step`
+pub below-step : (m k : Meter) (t : ℕ) {ch : Charge} → ch ≡ stepCharge m → ch ≡ Granted k → 5 * m .steps ≡ t → 5 * k .steps + 4 < t
 below-step m k t a b e = omega (arith, step-granted m (sym a ∙ b) .steps)
 
-pub below-open : (m k : Meter) (t : ℕ) {ch : Charge} → ch ≡ nameCharge m → ch ≡ Granted k → 4 * m .steps + 3 ≡ t → 4 * k .steps + 1 < t
+pub below-open : (m k : Meter) (t : ℕ) {ch : Charge} → ch ≡ nameCharge m → ch ≡ Granted k → 5 * m .steps + 4 ≡ t → 5 * k .steps + 1 < t
 below-open m k t a b e = omega (arith, name-granted m (sym a ∙ b) .steps)
 
-pub below-taken : (m k : Meter) (t n r : ℕ) {ch : Charge} → 1 < r → ch ≡ cellsCharge n m → ch ≡ Granted k → 4 * m .steps + r ≡ t → 4 * k .steps + 1 < t
+pub below-taken : (m k : Meter) (t n r : ℕ) {ch : Charge} → 1 < r → ch ≡ cellsCharge n m → ch ≡ Granted k → 5 * m .steps + r ≡ t → 5 * k .steps + 1 < t
 below-taken m k t n r z a b e = omega (arith, cells-granted n m (sym a ∙ b) .steps)
 
 pub fell-by : {F C W C₁ W₁ : List ℕ} {top i : ℕ} {v y : Val} {m k : Meter} {r : Ended} → Applied F C W top i v m r C₁ W₁ → r ≡ Done y k → k .steps < m .steps
 fell-by a e = applied-as e a .falls
 
-pub below-applied : {F C W C₁ W₁ : List ℕ} {top i : ℕ} {v y : Val} {m k : Meter} {r : Ended} (t : ℕ) → Applied F C W top i v m r C₁ W₁ → r ≡ Done y k → 4 * m .steps + 3 ≡ t → 4 * k .steps + 1 < t
+pub below-applied : {F C W C₁ W₁ : List ℕ} {top i : ℕ} {v y : Val} {m k : Meter} {r : Ended} (t : ℕ) → Applied F C W top i v m r C₁ W₁ → r ≡ Done y k → 5 * m .steps + 4 ≡ t → 5 * k .steps + 1 < t
 below-applied t a e q = omega (arith, fell-by a e)

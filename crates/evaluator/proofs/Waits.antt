@@ -1,12 +1,9 @@
 -- The ring of waiting values: what a value put there leaves of the others, and values that wait while the next are made.
-use Prim.Native.Nat.{ℕ, zero, suc, _+_, _-_, _*_, _/_, _≤_, _<_, _%_}
+use Prim.Native.Nat.{ℕ, suc, _+_, _-_, _≤_, _<_, _%_}
 use native.Mathlib.Omega.{arith}
 use mathlib.Core.Path.{_≡_, refl, sym, ap, subst, _∙_}
-use mathlib.Core.Bool.{Bool, true, false}
 use mathlib.Core.List.{List, [], _∷_}
-use borrow.Author.Tests.{leb-true, leb-false}
 use lib.ListN.{length}
-use lib.Dec.{leb}
 use Rattle.language.specs.Objects.{Obj, seq, Objs, nil, _::_, lengthOf}
 use Rattle.language.specs.Evaluation.{Out, value, bottom, spent, bind, askCells, gathered, noCell}
 use Rattle.language.specs.Charging.{cellsCharge, onCharge}
@@ -14,47 +11,25 @@ use Rattle.language.specs.declared.Meter.{Meter}
 use Rattle.language.specs.declared.Charge.{Charge}
 use Rattle.language.specs.declared.Charge.the-variants.{Granted, Spent}
 use Rattle.language.specs.declared.Val.{Val}
-use Rattle.language.proofs.Charging.{Left, cells-asked, cells-granted, cells-spent}
-use Rattle.tables.specs.Tables.{field}
-use Rattle.tables.proofs.Records.{record-behind}
-use Rattle.cells.specs.Cells.{Rep, Same, Room, free, valAt, cellPut}
+use Rattle.language.proofs.Charging.{cells-asked, cells-granted}
+use Rattle.cells.specs.Cells.{Rep, Same, Room, free, valAt}
 use Rattle.cells.specs.Parts.{heldAt, holdAt, onto, Held, no-held, a-held, Gathered}
-use Rattle.cells.proofs.Reps.{val-same, same-refl, same-trans, same-val, rep-ext, cell-same, cell-val, length-cell, free-is, free-room}
+use Rattle.cells.proofs.Reps.{same-refl, same-trans, rep-ext, free-is, free-room}
+use Rattle.cells.proofs.Ring.{hold-same, hold-other}
 use Rattle.primitives.specs.declared.Ended.{Ended}
 use Rattle.primitives.specs.declared.Ended.the-variants.{Done, Stop}
-use Rattle.primitives.specs.Ends.{Made, Agree, Gives, gives-value, gives-bottom, gives-spent}
+use Rattle.primitives.specs.Ends.{Gives, gives-value, gives-bottom, gives-spent}
 use Rattle.evaluator.specs.Ring.{Kept, Finished, Stopped, fell, ran-out, Ends, ends-done, ends-stop}
-use Rattle.evaluator.specs.Applying.{Given, Sinks, Taken, Collected}
+use Rattle.evaluator.specs.Applying.{Taken, Collected}
 use Rattle.primitives.proofs.Ending.{agree-self}
 use Rattle.evaluator.proofs.Steps.{free-up, kept-refl, ends-eq, gives-eq, stopped-eq, stopped-bind, few-cells}
 
 -- ---- a value in the ring
-val-behind : (W : List ℕ) (p : ℕ) (v : Val) (j : ℕ) → p < j → valAt (cellPut W p v 0) j ≡ valAt W j
-val-behind W p v j h =
-    let a = record-behind W p (v .tag) 0 (v .word % 4294967296) (v .word / 4294967296) in
-    val-same (valAt (cellPut W p v 0) j) (valAt W j) (a (j * 4) (omega arith)) (omega (arith, a (j * 4 + 2) (omega arith), a (j * 4 + 3) (omega arith)))
-
-val-other : (W : List ℕ) (p : ℕ) (v : Val) (j : ℕ) → (j ≡ p → ⊥) → valAt (cellPut W p v 0) j ≡ valAt W j
-val-other W p v j h = go (leb j p) refl
-  where
-    go : (b : Bool) → leb j p ≡ b → valAt (cellPut W p v 0) j ≡ valAt W j
-    go true e = same-val (cell-same W p v 0) j (below (leb-true j p e) h)
-      where
-        below : j ≤ p → (j ≡ p → ⊥) → j < p
-        below l n = omega (arith, n)
-    go false e = val-behind W p v j (leb-false j p e)
-
 pub held-same : (W : List ℕ) (t : ℕ) (v : Val) (i : ℕ) → length W ≡ 16384 → i % 4096 ≡ t % 4096 → heldAt (holdAt W t v) i ≡ v
-held-same W t v i l e = ap (λ (j : ℕ). valAt (cellPut W (t % 4096) v 0) j) e ∙ cell-val W (t % 4096) v 0 (omega arith)
-
-held-other : (W : List ℕ) (t : ℕ) (v : Val) (i : ℕ) → (i % 4096 ≡ t % 4096 → ⊥) → heldAt (holdAt W t v) i ≡ heldAt W i
-held-other W t v i h = val-other W (t % 4096) v (i % 4096) h
-
-pub length-hold : (W : List ℕ) (t : ℕ) (v : Val) → length (holdAt W t v) ≡ length W
-length-hold W t v = length-cell W (t % 4096) v 0
+held-same W t v i l e = ap (λ (j : ℕ). valAt (holdAt W t v) j) e ∙ hold-same W t v l
 
 -- where a value waits
-place : (top q i : ℕ) → i < q → q ≤ 4096 → ((top + q) % 4096 + (4096 - (q - i))) % 4096 ≡ (top + i) % 4096
+place : (top q i : ℕ) → i < q → q ≤ i + 4096 → ((top + q) % 4096 + (4096 - (q - i))) % 4096 ≡ (top + i) % 4096
 place top q i l h = omega arith
 
 place-below : (top q d : ℕ) → 1 ≤ d → d + q ≤ 4096 → ((top + q) % 4096 + (4096 - (d + q))) % 4096 ≡ (top + (4096 - d)) % 4096
@@ -66,22 +41,30 @@ apart top q i l h e = omega arith
 apart-below : (top q d : ℕ) → 1 ≤ d → d + q < 4096 → ((top + (4096 - d)) % 4096 ≡ (top + q) % 4096 % 4096) → ⊥
 apart-below top q d l h e = omega arith
 
+-- what is done at the place of q keeps what waits before it, and what waits below top
+module _ {W W₁ : List ℕ} {n n₁ : ℕ} (top q : ℕ) (k : Kept W W₁ ((top + q) % 4096) n n₁) where
+  pub kept-before : (i : ℕ) → i < q → q ≤ i + 4096 → q - i + n ≤ 4096 + n₁ → heldAt W₁ (top + i) ≡ heldAt W (top + i)
+  kept-before i l h z =
+      ap (λ (j : ℕ). valAt W₁ j) (sym (place top q i l h)) ∙ k .keep (q - i) (omega arith) z ∙ ap (λ (j : ℕ). valAt W j) (place top q i l h)
+
+  pub kept-below : (d : ℕ) → 1 ≤ d → d + q ≤ 4096 → d + q + n ≤ 4096 + n₁ → heldAt W₁ (top + (4096 - d)) ≡ heldAt W (top + (4096 - d))
+  kept-below d l h z =
+      ap (λ (j : ℕ). valAt W₁ j) (sym (place-below top q d l h)) ∙ k .keep (d + q) (omega arith) z ∙ ap (λ (j : ℕ). valAt W j) (place-below top q d l h)
+
 -- one waiting value more, at the ring's place of q: those before it are as they were
 held-on : {W W₁ C C₁ : List ℕ} {n n₁ f f₁ top : ℕ} (q : ℕ) (y : Val) {es : List Obj} → length es ≤ q → q + n ≤ 4096 + n₁ → q < 4096 → f ≤ f₁ → Same C C₁ f → Kept W W₁ ((top + q) % 4096) n n₁ → Held W C f top es → Held (holdAt W₁ ((top + q) % 4096) y) C₁ f₁ top es
 held-on q y l h z u s k no-held = no-held
 held-on {W} {W₁} {C} {C₁} {f₁ = f₁} {top} q y l h z u s k (a-held {x = x} {xs = es} p r) =
     let i : ℕ = length es in
-    let q1 = held-other W₁ ((top + q) % 4096) y (top + i) (apart top q i l z) in
-    let q2 = k .keep (q - i) (omega arith) (omega arith) in
-    let q3 : heldAt W₁ (top + i) ≡ heldAt W (top + i) = ap (λ (j : ℕ). valAt W₁ j) (sym (place top q i l (omega arith))) ∙ q2 ∙ ap (λ (j : ℕ). valAt W j) (place top q i l (omega arith)) in
-    a-held {x = x} {xs = es} (subst (λ w. Rep C₁ f₁ w x) (sym (q1 ∙ q3)) (rep-ext s u p)) (held-on q y (omega arith) h z u s k r)
+    let q1 = hold-other W₁ ((top + q) % 4096) y (top + i) (apart top q i l z) in
+    let q2 = kept-before top q k i l (omega arith) (omega arith) in
+    a-held {x = x} {xs = es} (subst (λ w. Rep C₁ f₁ w x) (sym (q1 ∙ q2)) (rep-ext s u p)) (held-on q y (omega arith) h z u s k r)
 
 kept-on : {W₀ W W₁ : List ℕ} {a n n₁ top : ℕ} (q : ℕ) (y : Val) → n ≤ a → n₁ ≤ n → Kept W₀ W top (a + q) n → Kept W W₁ ((top + q) % 4096) n n₁ → Kept W₀ (holdAt W₁ ((top + q) % 4096) y) top (a + (q + 1)) n₁
 kept-on {W₀} {W} {W₁} {a} {n} {n₁} {top} q y la lb k l = record {
   keep = λ d h z.
-      let q1 = held-other W₁ ((top + q) % 4096) y (top + (4096 - d)) (apart-below top q d h (omega arith)) in
-      let q2 : heldAt W₁ (top + (4096 - d)) ≡ heldAt W (top + (4096 - d)) = ap (λ (j : ℕ). valAt W₁ j) (sym (place-below top q d h (omega arith))) ∙ l .keep (d + q) (omega arith) (omega arith) ∙ ap (λ (j : ℕ). valAt W j) (place-below top q d h (omega arith)) in
-      q1 ∙ q2 ∙ k .keep d h (omega arith);
+      let q1 = hold-other W₁ ((top + q) % 4096) y (top + (4096 - d)) (apart-below top q d h (omega arith)) in
+      q1 ∙ kept-below top q l d h (omega arith) (omega arith) ∙ k .keep d h (omega arith);
 }
 
 -- ---- values that wait: `es` wait, the last first, and `rest` makes what follows
