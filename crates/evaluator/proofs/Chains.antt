@@ -21,11 +21,12 @@ use Rattle.cells.specs.Cells.{Rep, Same, Room, free}
 use Rattle.primitives.specs.declared.Ended.{Ended}
 use Rattle.primitives.specs.declared.Ended.the-variants.{Done, Stop}
 use Rattle.primitives.specs.Ends.{Made, Agree}
+use Rattle.primitives.specs.Shapes.{truthCode, ReadTruth}
 use Rattle.evaluator.specs.declared.waiting.Asked.{Asked}
 use Rattle.evaluator.specs.declared.waiting.Asked.the-variants.{Says, Stop as AskStop}
 use Rattle.linker.specs.Linked.{FormAt, form-at, UpTo, none-yet, one-more, DefAt, no-def, a-def, linkAt}
 use Rattle.evaluator.specs.Ring.{Kept, Finished, Stopped, fell, ran-out, Ends, ends-done, ends-stop}
-use Rattle.evaluator.specs.Applying.{Setting, by, At, LastAt, Given, Applied, Falls, Sinks, Chained, Chosen, Named, nameBy, Judged, Branch, Answers, says-yes, says-no, says-stop, Questioned, Lessens}
+use Rattle.evaluator.specs.Applying.{Setting, by, At, LastAt, Given, Applied, Falls, Sinks, Chained, Chosen, Named, nameBy, Branch, Answers, says-yes, says-no, says-stop, Questioned, Lessens}
 use Rattle.primitives.proofs.Ending.{agree-self}
 use Rattle.evaluator.proofs.Steps.{Since, since, since-refl, since-trans, gave, gave-stop, ends-since, ends-eq, stopped-eq, stopped-bind, stopped-close, given-value, given-again, given-charged, applied-as, sinks-after, decide-true, decide-false, decide-none}
 
@@ -111,28 +112,43 @@ chain-end z c = record {
   means = λ S k fs x p g. let h = c .means S k fs x p g in ends-done (end-chain S k z (h .parts) (h .given) (h .since) (h .whole));
 }
 
--- ---- a question
+-- ---- a question: what the number says that its value was read as
+is-yes : (t : Truth) → 1 ≡ truthCode t → t ≡ isT
+is-yes isT e = refl
+is-yes isF e = absurd (omega arith)
+is-yes neither e = absurd (omega arith)
+
+is-no : (t : Truth) → 0 ≡ truthCode t → t ≡ isF
+is-no isT e = absurd (omega arith)
+is-no isF e = refl
+is-no neither e = absurd (omega arith)
+
+is-neither : {n : ℕ} (t : Truth) → n ≡ truthCode t → (n ≡ 1 → ⊥) → (n ≡ 0 → ⊥) → t ≡ neither
+is-neither isT e h z = absurd (h e)
+is-neither isF e h z = absurd (z e)
+is-neither neither e h z = refl
+
 pub ask-stop : {F C W C₁ W₁ : List ℕ} {top h a : ℕ} {v : Val} {m n : Meter} {r : Ended} → Applied F C W top h v m r C₁ W₁ → r ≡ Stop a n → Questioned F C W top h v m (AskStop a n) C₁ W₁
 ask-stop a e = record { falls = tt; means = λ S k p x at gv. says-stop (λ onT onF. stopped-bind (λ b m₁. decide b m₁ onT onF) (gave-stop (applied-as e a .means S k p x at gv))) }
 
-pub ask-yes : {F C W C₁ W₁ : List ℕ} {top h b : ℕ} {v y : Val} {m n : Meter} {r : Ended} → Applied F C W top h v m r C₁ W₁ → r ≡ Done y n → Judged y b → b ≡ 1 → Questioned F C W top h v m (Says 1 n) C₁ W₁
-ask-yes {C₁ = C₁} {n = n} a e jd t =
+pub ask-yes : {F C W C₁ W₁ : List ℕ} {top h b : ℕ} {v y : Val} {m n : Meter} {r : Ended} → Applied F C W top h v m r C₁ W₁ → r ≡ Done y n → ReadTruth y b → b ≡ 1 → Questioned F C W top h v m (Says 1 n) C₁ W₁
+ask-yes {C₁ = C₁} {n = n} a e rt t =
     let a′ = applied-as e a in
-    record { falls = a′ .falls; means = λ S k p x at gv. let u = gave (a′ .means S k p x at gv) in says-yes u (jd .is-true t C₁ (free C₁ n) (u .obj) (u .made .rep)) }
+    record { falls = a′ .falls; means = λ S k p x at gv. let u = gave (a′ .means S k p x at gv) in says-yes u (is-yes (truthOf (u .obj)) (sym t ∙ rt .means C₁ (free C₁ n) (u .obj) (u .made .rep))) }
 
-pub ask-no : {F C W C₁ W₁ : List ℕ} {top h b : ℕ} {v y : Val} {m n : Meter} {r : Ended} → Applied F C W top h v m r C₁ W₁ → r ≡ Done y n → Judged y b → b ≡ 0 → Questioned F C W top h v m (Says 0 n) C₁ W₁
-ask-no {C₁ = C₁} {n = n} a e jd t =
+pub ask-no : {F C W C₁ W₁ : List ℕ} {top h b : ℕ} {v y : Val} {m n : Meter} {r : Ended} → Applied F C W top h v m r C₁ W₁ → r ≡ Done y n → ReadTruth y b → b ≡ 0 → Questioned F C W top h v m (Says 0 n) C₁ W₁
+ask-no {C₁ = C₁} {n = n} a e rt t =
     let a′ = applied-as e a in
-    record { falls = a′ .falls; means = λ S k p x at gv. let u = gave (a′ .means S k p x at gv) in says-no u (jd .is-false t C₁ (free C₁ n) (u .obj) (u .made .rep)) }
+    record { falls = a′ .falls; means = λ S k p x at gv. let u = gave (a′ .means S k p x at gv) in says-no u (is-no (truthOf (u .obj)) (sym t ∙ rt .means C₁ (free C₁ n) (u .obj) (u .made .rep))) }
 
-pub ask-none : {F C W C₁ W₁ : List ℕ} {top h b : ℕ} {v y : Val} {m n : Meter} {r : Ended} → Applied F C W top h v m r C₁ W₁ → r ≡ Done y n → Judged y b → (b ≡ 1 → ⊥) → (b ≡ 0 → ⊥) → Questioned F C W top h v m (AskStop 21 n) C₁ W₁
-ask-none {C₁ = C₁} {n = n} a e jd d t =
+pub ask-none : {F C W C₁ W₁ : List ℕ} {top h b : ℕ} {v y : Val} {m n : Meter} {r : Ended} → Applied F C W top h v m r C₁ W₁ → r ≡ Done y n → ReadTruth y b → (b ≡ 1 → ⊥) → (b ≡ 0 → ⊥) → Questioned F C W top h v m (AskStop 21 n) C₁ W₁
+ask-none {C₁ = C₁} {n = n} a e rt d t =
     let a′ = applied-as e a in
     record {
       falls = tt;
       means = λ S k p x at gv.
           let u = gave (a′ .means S k p x at gv) in
-          says-stop (λ onT onF. fell (ap (λ w. bind w (λ b m₁. decide b m₁ onT onF)) (u .is) ∙ decide-none (u .obj) n onT onF (jd .is-none d t C₁ (free C₁ n) (u .obj) (u .made .rep))) refl (agree-self n));
+          says-stop (λ onT onF. fell (ap (λ w. bind w (λ b m₁. decide b m₁ onT onF)) (u .is) ∙ decide-none (u .obj) n onT onF (is-neither (truthOf (u .obj)) (rt .means C₁ (free C₁ n) (u .obj) (u .made .rep)) d t)) refl (agree-self n));
     }
 
 asked-as : {F C W C₁ W₁ : List ℕ} {top i : ℕ} {v : Val} {m : Meter} {r r′ : Asked} → r ≡ r′ → Questioned F C W top i v m r C₁ W₁ → Questioned F C W top i v m r′ C₁ W₁

@@ -9,4 +9,3 @@ pub mod Pairs
 pub mod Inserts
 pub mod Applies
 pub mod Numbers
-pub mod Verdicts

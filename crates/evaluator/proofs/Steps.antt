@@ -19,7 +19,7 @@ use Rattle.primitives.specs.declared.Ended.{Ended}
 use Rattle.primitives.specs.declared.Ended.the-variants.{Done, Stop}
 use Rattle.primitives.specs.Ends.{Made, Agree, Gives, gives-value, gives-bottom, gives-spent}
 use Rattle.evaluator.specs.Ring.{Kept, Finished, Stopped, fell, ran-out, Ends, ends-done, ends-stop}
-use Rattle.evaluator.specs.Applying.{Setting, by, Given, Applied, Falls, Sinks, Judged}
+use Rattle.evaluator.specs.Applying.{Setting, by, Given, Applied, Falls, Sinks}
 
 -- what a part of a run leaves of what stood before
 pub record Since (C W : List ℕ) (top : ℕ) (m : Meter) (C₁ W₁ : List ℕ) (m₁ : Meter) : Type 0 where

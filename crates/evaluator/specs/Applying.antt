@@ -4,7 +4,7 @@ use mathlib.Core.Path.{_≡_}
 use mathlib.Core.List.{List, [], _∷_}
 use mathlib.Core.Option.{Option, some, none}
 use lib.ListN.{length, getD}
-use Rattle.language.specs.Objects.{Obj, seq, Objs, nil, _::_, lengthOf, truthOf, Truth, isT, isF, neither}
+use Rattle.language.specs.Objects.{Obj, seq, Objs, nil, _::_, lengthOf, truthOf, isT, isF}
 use Rattle.language.specs.Forms.{Form, construct, Forms, Prog, count, mainForm, select, selectRight}
 use Rattle.language.specs.Bytes.{bytes}
 use Rattle.language.specs.Meanings.{one, pair}
@@ -194,12 +194,6 @@ pub record Spread (C W : List ℕ) (top k : ℕ) (v r : Val) (W′ : List ℕ) :
   pub long : length W′ ≡ length W
   pub held : (n : ℕ) (xs : Objs) → n < 4294967296 → k < lengthOf xs → Rep C n v (seq xs) → length W ≡ 16384 → (j : ℕ) → j < k → k ≤ j + 4096 → Rep C n (heldAt W′ (top + j)) (nthObj xs j)
   pub others : (d : ℕ) → 1 ≤ d → d + k ≤ 4096 → heldAt W′ (top + (4096 - d)) ≡ heldAt W (top + (4096 - d))
-
--- whether a value is T (1), F (0) or anything else
-pub record Judged (v : Val) (r : ℕ) : Type 0 where
-  pub is-true : r ≡ 1 → (C : List ℕ) (n : ℕ) (x : Obj) → Rep C n v x → truthOf x ≡ isT
-  pub is-false : r ≡ 0 → (C : List ℕ) (n : ℕ) (x : Obj) → Rep C n v x → truthOf x ≡ isF
-  pub is-none : (r ≡ 1 → ⊥) → (r ≡ 0 → ⊥) → (C : List ℕ) (n : ℕ) (x : Obj) → Rep C n v x → truthOf x ≡ neither
 
 -- T holds the first 8,192 numbers of F, and 0 past its end
 pub record Copied (F T : List ℕ) : Type 0 where

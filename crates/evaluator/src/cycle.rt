@@ -13,11 +13,11 @@ use crate::waiting::Asked;
 use crate::waiting::collect;
 use crate::waiting::place;
 use crate::waiting::spread;
-use crate::waiting::verdict;
 use language::Charge;
 use language::Meter;
 use language::Val;
 use primitives::Ended;
+use primitives::truth_of;
 
 // One application of the form at i to v. A value lent as two numbers and a meter lent as three take less of the stack, and so
 // does an answer that is taken apart at once.
@@ -282,7 +282,7 @@ pub fn ask(
     match apply(f, c, w, top, h, v, m) {
         Ended::Stop(a, k) => Asked::Stop(a, k),
         Ended::Done(y, k) => {
-            let b = verdict(y);
+            let b = truth_of(y);
             if b == 1 {
                 return Asked::Says(1, k);
             }

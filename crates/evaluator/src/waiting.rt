@@ -1,7 +1,7 @@
-// Values that wait in the ring, and what a question's value says.
+// Values that wait in the ring, and what a question says.
 ghost use mathlib.Core.Path.{_≡_};
 ghost use Prim.Native.Nat.{_+_, _%_};
-ghost use Rattle.evaluator.specs.Applying.{Collected, Spread, Judged};
+ghost use Rattle.evaluator.specs.Applying.{Collected, Spread};
 use language::Charge;
 use language::Meter;
 use language::Val;
@@ -47,17 +47,4 @@ pub fn spread(c: &[u32], w: &mut [u32; 16384], top: u32, many: u32, v: Val) -> V
         q += 1;
     }
     cells::head(c, s)
-}
-
-// 1 for T, 0 for F, 2 for anything else. T and F are packed as 20 and 6.
-pub fn verdict(v: Val) -> u32
-    ensures { λ r. ⌜ Judged v r ⌝ }
-{
-    if v.tag != 2 {
-        return 2;
-    }
-    if v.word == 20 {
-        return 1;
-    }
-    if v.word == 6 { 0 } else { 2 }
 }

@@ -73,11 +73,11 @@ use Rattle.evaluator.proofs.records.next.Reads as next-reads
 use Rattle.evaluator.proofs.waiting.collect.Reads as collect-reads
 use Rattle.evaluator.proofs.waiting.place.Reads as place-reads
 use Rattle.evaluator.proofs.waiting.spread.Reads as spread-reads
-use Rattle.evaluator.proofs.waiting.verdict.Reads as verdict-reads
 use Rattle.language.proofs.Meter.charge_cells.Reads as charge-cells-reads
 use Rattle.language.proofs.Meter.charge_step.Reads as charge-step-reads
 use Rattle.language.proofs.Meter.close_name.Reads as close-name-reads
 use Rattle.language.proofs.Meter.open_name.Reads as open-name-reads
+use Rattle.primitives.proofs.truth_of.Reads as truth-of-reads
 use Rattle.evaluator.proofs.cycle.+apply+ask+between+bu+chain+condition+construct+each+fold+insert+name+repeat+slot+step.{
   statement,
 }
@@ -217,7 +217,7 @@ abbrev apply-calls : ℕ → apply-lts.Claims
 apply-calls t = (step-below t, step.Post)
 
 abbrev ask-calls : ℕ → ask-lts.Claims
-ask-calls t = (apply-below t, apply.Post, verdict-reads.Asked, verdict-reads.Learnt)
+ask-calls t = (apply-below t, apply.Post, truth-of-reads.Asked, truth-of-reads.Learnt)
 
 abbrev between-calls : ℕ → between-lts.Claims
 between-calls t = (place-reads.Asked, place-reads.Learnt, fold-below t, fold.Post)
@@ -295,9 +295,9 @@ ask-enum-known-a t c = search needs
 ask-enum-known-y : (t : ℕ) → ask-lts.Need-enum-known-y (ask-calls t) (ask-at t) ask.Post
 ask-enum-known-y t c = search needs
 
--- let b = verdict(y);
-ask-verdict-requires : (t : ℕ) → ask-lts.Need-verdict-requires (ask-calls t) (ask-at t) ask.Post
-ask-verdict-requires t c κs = search needs
+-- let b = truth_of(y);
+ask-truth-of-requires : (t : ℕ) → ask-lts.Need-truth-of-requires (ask-calls t) (ask-at t) ask.Post
+ask-truth-of-requires t c κs = search needs
 
 -- return Asked::Says(1, k);
 ask-same-length : (t : ℕ) → ask-lts.Need-same-length (ask-calls t) (ask-at t) ask.Post
@@ -1079,7 +1079,7 @@ pub +apply+ask+between+bu+chain+condition+construct+each+fold+insert+name+repeat
     (ask-apply-requires t)
     (ask-enum-known-a t)
     (ask-enum-known-y t)
-    (ask-verdict-requires t)
+    (ask-truth-of-requires t)
     (ask-same-length t)
     (ask-returns t)
     (ask-same-length-2 t)
