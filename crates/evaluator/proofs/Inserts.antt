@@ -53,21 +53,20 @@ pub record BetweenNow (F : List ℕ) (S : Setting) (k : ℕ) (Cs Ws : List ℕ) 
   pub fewer : n .cells ≤ m .cells
   pub spends : n .cells + 2 * many ≤ m .cells + 2 * q
   pub long : length C ≡ length Cs
-  pub names : n .names ≡ m .names
   pub kept : Kept Ws W top (m .cells + 2 * q) (n .cells)
   pub queued : Queued W C (free C n) top q (n .cells) xs
   pub whole : all ≡ insertOn (by S k) f (seq (onto (firsts xs q) (acc :: nil))) n
 
 pub record Inserting (F Cs Ws : List ℕ) (top g many : ℕ) (v : Val) (m : Meter) (C W : List ℕ) (q : ℕ) (y : Val) (n : Meter) : Type 0 where
-  pub sinks : n .steps ≤ m .steps
+  pub sinks : (n .steps ≤ m .steps) × (n .names ≡ m .names)
   pub longC : length C ≡ length Cs
   pub means : (S : Setting) (k : ℕ) (f : Form) (xs : Objs) (acc : Obj) → At F S g f → Given F S k Cs Ws m v acc → Queued Ws Cs (free Cs m) top many (m .cells) xs → BetweenNow F S k Cs Ws top many m f xs (insertOn (by S k) f (seq (onto (firsts xs many) (acc :: nil))) m) C W q y n
 
 pub between-start : {F C W : List ℕ} {top g many : ℕ} {v : Val} {m : Meter} → Inserting F C W top g many v m C W many v m
 between-start {C = C} {W} {top} {many = many} {m = m} = record {
-  sinks = omega arith;
+  sinks = (omega arith, refl);
   longC = refl;
-  means = λ S k f xs acc fa g w. record { acc = acc; given = g; same = same-refl C (free C m); fewer = omega arith; spends = omega arith; long = refl; names = refl; kept = kept-refl W top (m .cells + 2 * many) (m .cells); queued = w; whole = refl };
+  means = λ S k f xs acc fa g w. record { acc = acc; given = g; same = same-refl C (free C m); fewer = omega arith; spends = omega arith; long = refl; kept = kept-refl W top (m .cells + 2 * many) (m .cells); queued = w; whole = refl };
 }
 
 -- the value that is taken next
@@ -96,7 +95,7 @@ module _ {F C W C₁ W₁ : List ℕ} {g t : ℕ} {y : Val} {n : Meter} {r r₁ 
 
 pub between-turn : {F Cs Ws C W C₁ W₁ : List ℕ} {top g many q t : ℕ} {v y z : Val} {m n n₁ : Meter} {r : Ended} → 0 < q → Inserting F Cs Ws top g many v m C W q y n → t ≡ (top + (q - 1)) % 4096 → Folded F C W t g y n r C₁ W₁ → r ≡ Done z n₁ → length C₁ ≡ length C → Inserting F Cs Ws top g many v m C₁ W₁ (q - 1) z n₁
 between-turn {Cs = Cs} {C = C} {C₁ = C₁} {top = top} {q = q} {m = m} {n} {n₁} h b te fo e lc = record {
-  sinks = omega (arith, known top q te fo e .falls, b .sinks);
+  sinks = (omega (arith, known top q te fo e .falls .0, b .sinks .0), known top q te fo e .falls .1 ∙ b .sinks .1);
   longC = lc ∙ b .longC;
   means = λ S k f xs acc fa gv w.
       let p = b .means S k f xs acc fa gv w in
@@ -104,12 +103,11 @@ between-turn {Cs = Cs} {C = C} {C₁ = C₁} {top = top} {q = q} {m = m} {n} {n�
       let s = gave (u .0) in
       record {
         acc = s .obj;
-        given = given-value (p .given) (known top q te fo e .falls) s;
+        given = given-value (p .given) (known top q te fo e .falls .0) s;
         same = same-trans (free-up Cs C m n (p .fewer) (p .long)) (p .same) (s .made .same);
         fewer = omega (arith, u .1, p .fewer);
         spends = omega (arith, u .1, p .spends);
         long = s .made .long ∙ p .long;
-        names = s .names ∙ p .names;
         kept = below-on q h (p .fewer) (u .1) (p .kept) (s .kept);
         queued = queue-on q h (few-cells (p .given .room) .0) (u .1) (free-up C C₁ n n₁ (s .made .fewer) (s .made .long)) (s .made .same) (s .kept) (p .queued);
         whole = p .whole ∙ ap (λ ys. insertOn (by S k) f (seq ys) n) (one-taken xs (p .acc :: nil) q h) ∙ behind (by S k) f n n₁ (firsts xs (q - 1)) (nthObj xs (q - 1)) (s .obj) (p .acc :: nil) nil (s .is);
@@ -135,7 +133,7 @@ between-end {q = q} {y = y} {n = n} z b = record {
   sinks = b .sinks;
   means = λ S k f xs acc fa gv w.
       let p = b .means S k f xs acc fa gv w in (
-        ends-done {v = y} {m′ = n} (record { obj = p .acc; is = p .whole ∙ none-left (by S k) f xs (p .acc) n q z; made = record { rep = p .given .arg; same = p .same; room = p .given .room; fewer = p .fewer; long = p .long }; ring = p .given .ring; kept = record { keep = λ d h l. p .kept .keep d h (omega arith) }; names = p .names }),
+        ends-done {v = y} {m′ = n} (record { obj = p .acc; is = p .whole ∙ none-left (by S k) f xs (p .acc) n q z; made = record { rep = p .given .arg; same = p .same; room = p .given .room; fewer = p .fewer; long = p .long }; ring = p .given .ring; kept = record { keep = λ d h l. p .kept .keep d h (omega arith) } }),
         omega (arith, p .spends),
       );
 }
@@ -182,7 +180,7 @@ split xs q e =
 -- what waited before is kept too: an insert that ends has taken two cells for each place that waits
 ends-spread : {C W W₁ C₂ W₂ : List ℕ} {top : ℕ} {m : Meter} {e : Out Obj} {r : Ended} (k : ℕ) → ((d : ℕ) → 1 ≤ d → d + k ≤ 4096 → heldAt W₁ (top + (4096 - d)) ≡ heldAt W (top + (4096 - d))) → Spends r m (2 * k) → Ends C W₁ top m e C₂ W₂ r → Ends C W top m e C₂ W₂ r
 ends-spread k o s (ends-done u) =
-    ends-done (record { obj = u .obj; is = u .is; made = u .made; ring = u .ring; kept = record { keep = λ d h z. u .kept .keep d h z ∙ o d h (omega arith) }; names = u .names })
+    ends-done (record { obj = u .obj; is = u .is; made = u .made; ring = u .ring; kept = record { keep = λ d h z. u .kept .keep d h z ∙ o d h (omega arith) } })
 ends-spread k o s (ends-stop u) = ends-stop u
 
 pub insert-done : {F C W W₁ C₂ W₂ : List ℕ} {top g many : ℕ} {v y : Val} {m : Meter} {r : Ended} → v .tag ≡ 3 → Sized v many → (many ≡ 0 → ⊥) → Spread C W top (many - 1) v y W₁ → Between F C W₁ top g (many - 1) y m r C₂ W₂ → Inserted F C W top g v m r C₂ W₂

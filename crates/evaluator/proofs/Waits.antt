@@ -88,14 +88,13 @@ pub record Waiting (Cs Ws : List ℕ) (top : ℕ) (m : Meter) (all : Out Objs) (
   pub same : Same Cs C (free Cs m)
   pub fewer : n .cells ≤ m .cells
   pub long : length C ≡ length Cs
-  pub names : n .names ≡ m .names
   pub kept : Kept Ws W top (m .cells + q) (n .cells)
   pub held : q ≤ n .cells → Held W C (free C n) top es
   pub size : length es ≡ q
   pub whole : all ≡ bind (rest n) (λ ys m₁. value (onto es ys) m₁)
 
 pub wait-start : (C W : List ℕ) (top : ℕ) (m : Meter) (rest : Meter → Out Objs) → Waiting C W top m (rest m) C W 0 m rest
-wait-start C W top m rest = record { es = []; same = same-refl C (free C m); fewer = omega arith; long = refl; names = refl; kept = kept-refl W top (m .cells + 0) (m .cells); held = λ h. no-held; size = refl; whole = same-out (rest m) }
+wait-start C W top m rest = record { es = []; same = same-refl C (free C m); fewer = omega arith; long = refl; kept = kept-refl W top (m .cells + 0) (m .cells); held = λ h. no-held; size = refl; whole = same-out (rest m) }
 
 pub wait-next : {Cs Ws C W C₁ W₁ : List ℕ} {top : ℕ} {y : Val} {m n n₁ : Meter} {all : Out Objs} (q : ℕ) (one : Meter → Out Obj) (rest : Meter → Out Objs) → n .cells ≤ 4096 → Waiting Cs Ws top m all C W q n (λ k. bind (one k) (λ z k₁. bind (rest k₁) (λ zs k₂. value (z :: zs) k₂))) → Finished C W ((top + q) % 4096) n (one n) y n₁ C₁ W₁ → Waiting Cs Ws top m all C₁ (holdAt W₁ ((top + q) % 4096) y) (q + 1) n₁ rest
 wait-next {Cs} {C = C} {C₁ = C₁} {W₁ = W₁} {top} {y} {m} {n} {n₁} q one rest lim b u =
@@ -105,7 +104,6 @@ wait-next {Cs} {C = C} {C₁ = C₁} {W₁ = W₁} {top} {y} {m} {n} {n₁} q on
       same = same-trans (free-up Cs C m n (b .fewer) (b .long)) (b .same) (u .made .same);
       fewer = omega (arith, u .made .fewer, b .fewer);
       long = u .made .long ∙ b .long;
-      names = u .names ∙ b .names;
       kept = kept-on q y (b .fewer) (u .made .fewer) (b .kept) (u .kept);
       held = λ h. a-held {x = v} {xs = b .es}
           (rw (b .size, held-same W₁ ((top + q) % 4096) y (top + q) (u .ring) (omega arith)) (u .made .rep))
@@ -139,8 +137,8 @@ pub collect-made : {C W C₁ : List ℕ} {top q p : ℕ} {v : Val} {n k : Meter}
 collect-made {C} {C₁ = C₁} {q = q} {p} {v} {n} {k} pe a b g lc =
     let c = cells-granted q n (sym a ∙ b) in
     record {
-      sinks = omega (arith, c .steps);
-      taken = (c .cells, omega (arith, c .names));
+      sinks = (omega (arith, c .steps), omega (arith, c .names));
+      taken = c .cells;
       means = λ es l h r.
           let w = free-is p r pe in
           let f = few-cells r in
@@ -151,20 +149,19 @@ collect-made {C} {C₁ = C₁} {q = q} {p} {v} {n} {k} pe a b g lc =
     }
 
 -- what `collect` does ends it
-collect-ends : {Cs Ws C W C₁ : List ℕ} {top : ℕ} {m : Meter} {e : Out Obj} (n : Meter) (q : ℕ) (r : Ended) → Same Cs C (free Cs m) → n .cells ≤ m .cells → length C ≡ length Cs → n .names ≡ m .names → length W ≡ 16384 → Kept Ws W top (m .cells + q) (n .cells) → Taken r n q → Gives C n C₁ e r → Ends Cs Ws top m e C₁ W r
-collect-ends n q (Stop a k) s l lc nm w kp t (gives-bottom z g) = ends-stop (fell refl z g)
-collect-ends n q (Stop a k) s l lc nm w kp t (gives-spent z g) = ends-stop (ran-out refl z g)
-collect-ends {Cs} {C = C} {m = m} n q (Done v k) s l lc nm w kp t (gives-value {x = x} g) =
+collect-ends : {Cs Ws C W C₁ : List ℕ} {top : ℕ} {m : Meter} {e : Out Obj} (n : Meter) (q : ℕ) (r : Ended) → Same Cs C (free Cs m) → n .cells ≤ m .cells → length C ≡ length Cs → length W ≡ 16384 → Kept Ws W top (m .cells + q) (n .cells) → Taken r n q → Gives C n C₁ e r → Ends Cs Ws top m e C₁ W r
+collect-ends n q (Stop a k) s l lc w kp t (gives-bottom z g) = ends-stop (fell refl z g)
+collect-ends n q (Stop a k) s l lc w kp t (gives-spent z g) = ends-stop (ran-out refl z g)
+collect-ends {Cs} {C = C} {m = m} n q (Done v k) s l lc w kp t (gives-value {x = x} g) =
     ends-done {v = v} {m′ = k} (record {
       obj = x;
       is = refl;
       made = record { rep = g .rep; same = same-trans (free-up Cs C m n l lc) s (g .same); room = g .room; fewer = omega (arith, g .fewer); long = g .long ∙ lc };
       ring = w;
-      kept = record { keep = λ d h z. kp .keep d h (omega (arith, t .0)) };
-      names = t .1 ∙ nm;
+      kept = record { keep = λ d h z. kp .keep d h (omega (arith, t)) };
     })
 
 pub wait-closed : {Cs Ws C W C₁ : List ℕ} {top : ℕ} {m n : Meter} {all : Out Objs} {rest : Meter → Out Objs} {q : ℕ} {r : Ended} → rest n ≡ value nil n → Waiting Cs Ws top m all C W q n rest → Room C n → length W ≡ 16384 → Collected C W top q n r C₁ → Ends Cs Ws top m (bind all gathered) C₁ W r
 wait-closed {n = n} {q = q} {r} e b rm w c =
     ends-eq (ap (λ u. bind u gathered) (b .whole ∙ ap (λ u. bind u (λ ys m₁. value (onto (b .es) ys) m₁)) e))
-    (collect-ends n q r (b .same) (b .fewer) (b .long) (b .names) w (b .kept) (c .taken) (c .means (b .es) (b .size) (b .held) rm))
+    (collect-ends n q r (b .same) (b .fewer) (b .long) w (b .kept) (c .taken) (c .means (b .es) (b .size) (b .held) rm))

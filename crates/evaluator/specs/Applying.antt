@@ -16,7 +16,7 @@ use Rattle.cells.specs.Cells.{Rep, Same, Room, free}
 use Rattle.cells.specs.Parts.{heldAt, holdAt, onto, Held, Nth, nthObj}
 use Rattle.primitives.specs.declared.Ended.{Ended}
 use Rattle.primitives.specs.declared.Ended.the-variants.{Done, Stop}
-use Rattle.primitives.specs.Ends.{Gives, Leaf}
+use Rattle.primitives.specs.Ends.{Gives, Leaf, Sinks}
 use Rattle.primitives.specs.Leaves.{Coded}
 use Rattle.tables.specs.Tables.{field}
 use Rattle.evaluator.specs.declared.waiting.Asked.{Asked}
@@ -54,13 +54,10 @@ pub record Given (F : List ℕ) (S : Setting) (k : ℕ) (C W : List ℕ) (m : Me
   pub fuel : m .steps ≤ k
   pub arg : Rep C (free C m) v x
 
+-- the steps fall, and as many names may open as before
 abbrev pub Falls : Ended → Meter → Type 0
-Falls (Done v m′) m = m′ .steps < m .steps
+Falls (Done v m′) m = (m′ .steps < m .steps) × (m′ .names ≡ m .names)
 Falls (Stop n m′) m = Unit {0}
-
-abbrev pub Sinks : Ended → Meter → Type 0
-Sinks (Done v m′) m = m′ .steps ≤ m .steps
-Sinks (Stop n m′) m = Unit {0}
 
 -- what is done at a form with no parts, by its kind: a word, a selector or a constant; any other kind gives bottom
 pub data Alone (F C : List ℕ) (i : ℕ) (v : Val) (m : Meter) : ℕ → Ended → List ℕ → Type 0 where
@@ -129,7 +126,7 @@ pub record Bound (F C W : List ℕ) (top g : ℕ) (a v : Val) (m : Meter) (r : E
   pub means : (S : Setting) (k : ℕ) (f : Form) (y x : Obj) → At F S g f → Rep (S .cells) (S .few) a y → Given F S k C W m v x → Ends C W top m (onPairOf (by S k) f y x m) C′ W′ r
 
 abbrev pub Lessens : Asked → Meter → Type 0
-Lessens (Says b k) m = k .steps < m .steps
+Lessens (Says b k) m = (k .steps < m .steps) × (k .names ≡ m .names)
 Lessens (AskStop n k) m = Unit {0}
 
 -- what a question says, where e is the outcome of its application
@@ -178,7 +175,7 @@ pub record Slotted (F C W : List ℕ) (t i : ℕ) (v : Val) (m : Meter) (r : End
   pub put : PutAt r mid W′ t
 
 abbrev pub Taken : Ended → Meter → ℕ → Type 0
-Taken (Done v m′) m q = (m′ .cells + q ≡ m .cells) × (m′ .names ≡ m .names)
+Taken (Done v m′) m q = m′ .cells + q ≡ m .cells
 Taken (Stop n m′) m q = Unit {0}
 
 -- the q values that wait from top on, made a sequence with q cells

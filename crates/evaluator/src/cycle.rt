@@ -388,7 +388,10 @@ pub fn name(
         Charge::Spent(k) => Ended::Stop(23, k),
         Charge::Granted(k) => match apply(f, c, w, top, d - 1, v, k) {
             Ended::Stop(a, l) => Ended::Stop(a, l),
-            Ended::Done(y, l) => Ended::Done(y, l.close_name()),
+            Ended::Done(y, l) => {
+                let back = l.close_name();
+                Ended::Done(y, back)
+            }
         },
     }
 }

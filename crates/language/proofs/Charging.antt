@@ -4,10 +4,10 @@ use mathlib.Core.Path.{_≡_, refl, sym, ap, _∙_}
 use mathlib.Core.Bool.{Bool, true, false, cond}
 use native.Mathlib.Omega.{arith}
 use lib.Dec.{eqb, leb}
-use borrow.Author.Tests.{leb-true, leb-false, eqb-true, eqb-false, lt-leb, ne-eqb}
+use borrow.Author.Tests.{leb-true, leb-false, eqb-true, eqb-false, ne-eqb}
 use Rattle.language.specs.Evaluation.{Out, spent, close, noStep, noName, noCell, askStep, askCells, askName, withNames}
 use Rattle.language.specs.Evaluation.{Spent as Budget}
-use Rattle.language.specs.Charging.{stepCharge, cellsCharge, nameCharge, closed, onCharge, stepTaken, cellsTaken, nameTaken}
+use Rattle.language.specs.Charging.{stepCharge, cellsCharge, nameCharge, nameGiven, onCharge, stepTaken, cellsTaken, nameTaken}
 use Rattle.language.specs.declared.Meter.{Meter}
 use Rattle.language.specs.declared.Charge.{Charge}
 use Rattle.language.specs.declared.Charge.the-variants.{Granted, Spent}
@@ -44,9 +44,8 @@ name-asked m k = go (m .names) refl
         rw (e, ne-eqb (suc s) 0 (λ h. omega arith), z)
 
 -- Where as many names are open as after the name was taken, giving one back is the close.
-pub closed-is : (d : ℕ) (m : Meter) → m .names + 1 ≡ d → d < 4294967296 → closed m ≡ withNames d m
-unfolding closed
-closed-is d m e h = rw (lt-leb 4294967295 (m .names) (omega arith), e)
+pub name-given : (d : ℕ) (m : Meter) → m .names + 1 ≡ d → nameGiven m ≡ withNames d m
+name-given d m e = rw e
 
 -- What is left of m, where k is left, s steps, d names and c cells were taken.
 pub record Left (m k : Meter) (s d c : ℕ) : Type 0 where

@@ -29,9 +29,9 @@ cellsCharge n m = cond (leb n (m .cells)) (Granted (cellsTaken n m)) (Spent m)
 unfoldable pub nameCharge : Meter → Charge
 nameCharge m = cond (eqb (m .names) 0) (Spent m) (Granted (nameTaken m))
 
--- One more name may open again. The largest u32 stays as it is: no budget is so large that a name is closed at it.
-unfoldable pub closed : Meter → Meter
-closed m = cond (leb 4294967295 (m .names)) m (record { steps = m .steps; names = m .names + 1; cells = m .cells })
+-- one more name may open
+abbrev pub nameGiven : Meter → Meter
+nameGiven m = record { steps = m .steps; names = m .names + 1; cells = m .cells }
 
 -- what follows goes on with the meter that is left, or the budget w is spent
 abbrev pub onCharge : {A : Type 0} → Charge → Budget → (Meter → Out A) → Out A

@@ -2,7 +2,7 @@
 use Prim.Native.Nat.{_+_, _*_, _-_, _≤_}
 use mathlib.Core.Path.{_∙_}
 use Rattle.evaluator.proofs.Steps.{below-step, applied-as, below-open, below-taken, below-applied, fell-by}
-use Rattle.evaluator.proofs.Chains.{Chaining, chain-start, chain-next, chain-stop, chain-end, ask-stop, ask-yes, ask-no, ask-none, below-says, cond-stop, cond-done, name-none, name-full, name-stop, name-done}
+use Rattle.evaluator.proofs.Chains.{Chaining, chain-start, chain-next, chain-stop, chain-end, ask-stop, ask-yes, ask-no, ask-none, below-says, cond-stop, cond-done, name-none, name-full, name-stop, may-close, name-done}
 use Rattle.evaluator.proofs.Builds.{slot-done, slot-stop, slot-fell, Building, build-start, build-turn, build-halt, build-done, Mapping, map-atom, map-start, map-turn, map-halt, map-done}
 use Rattle.evaluator.proofs.Repeats.{Repeating, repeat-start, repeat-stop, repeat-done, repeat-stop-2, repeat-less, repeat-next, below-turn}
 use Rattle.evaluator.proofs.Pairs.{bu-full, bu-done, fold-full, fold-done, fold-fell}
@@ -755,13 +755,13 @@ name-apply-requires t c κs = search (below-open, needs)
 name-enum-known-a : (t : ℕ) → name-lts.Need-enum-known-a (name-calls t) (name-at t) name.Post
 name-enum-known-a t c = search needs
 
--- Ended::Done(y, l) => Ended::Done(y, l.close_name()),
+-- Ended::Done(y, l) => {
 name-enum-known-y : (t : ℕ) → name-lts.Need-enum-known-y (name-calls t) (name-at t) name.Post
 name-enum-known-y t c = search needs
 
--- Ended::Done(y, l) => Ended::Done(y, l.close_name()),
+-- let back = l.close_name();
 name-close-name-requires : (t : ℕ) → name-lts.Need-close-name-requires (name-calls t) (name-at t) name.Post
-name-close-name-requires t c κs = search needs
+name-close-name-requires t c κs = search (may-close, c .before .before .before .before .before .before .before .before .before .before .before .before .before .before .good .1 .1 .1 .1 .1 .1)
 
 -- pub fn name(
 name-returns-2 : (t : ℕ) → name-lts.Need-returns-2 (name-calls t) (name-at t) name.Post
@@ -781,7 +781,7 @@ name-same-length-2 t c = search needs
 
 -- pub fn name(
 name-returns-4 : (t : ℕ) → name-lts.Need-returns-4 (name-calls t) (name-at t) name.Post
-name-returns-4 t c = let g = c .before .before .before .before .before .before .before .before .before .before .before .before .before .before .before .good .1 .1 .1 .1 .1 .1 .0 in let l : c .before .before .before .before .before .before .before .before .before .before .before .before .before .before .before .args .m .names < 4294967296 = omega (arith, g) in search name-done
+name-returns-4 t c = search name-done
 
 abbrev repeat-Inv-loop : repeat-lts.InvT-loop
 repeat-Inv-loop f c₀ w₀ top h g x₀ n₀ c w x n = Repeating f c₀ w₀ top h x₀ n₀ c w x n
