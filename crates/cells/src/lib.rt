@@ -141,7 +141,7 @@ pub fn pair(c: &mut [u32], p: u32, a: Val, b: Val) -> Val
 }
 
 // The waiting value in place i of the ring.
-fn held(w: &[u32], i: usize) -> Val
+pub fn held(w: &[u32], i: usize) -> Val
     ensures { λ r. ⌜ r ≡ heldAt (now (w .entry)) i ⌝ }
 {
     value_at(w, (i % PLACES) as u32)

@@ -1,37 +1,36 @@
 -- An application by its kind, and a whole run, in the tables against the definition.
-use Prim.Native.Nat.{ℕ, zero, suc, _+_, _-_, _*_, _≤_, _<_, _%_}
+use Prim.Native.Nat.{ℕ, zero, suc, _+_, _-_, _≤_, _<_, _%_}
 use native.Mathlib.Omega.{arith}
 use mathlib.Core.Path.{_≡_, refl, sym, ap, subst, _∙_}
-use mathlib.Core.List.{List, [], _∷_}
+use mathlib.Core.List.{List}
 use lib.ListN.{length}
-use Rattle.language.specs.Objects.{Obj, int, symbol, seq, Objs, nil, _::_, lengthOf}
-use Rattle.language.specs.Forms.{op, select, selectRight, Form, word, name, chain, construct, constant, insert, applyAll, bu, condition, while, Forms, stop, _&_, count}
+use Rattle.language.specs.Objects.{Obj}
+use Rattle.language.specs.Forms.{select, selectRight, Form, word, name}
 use Rattle.language.specs.Numbers.{one}
-use Rattle.language.specs.Meanings.{pair}
 use Rattle.language.specs.declared.Meter.{Meter}
 use Rattle.language.specs.declared.Charge.{Charge}
 use Rattle.language.specs.declared.Charge.the-variants.{Granted, Spent}
 use Rattle.language.specs.declared.Val.{Val}
 use Rattle.primitives.specs.declared.Ended.{Ended}
 use Rattle.primitives.specs.declared.Ended.the-variants.{Done, Stop}
-use Rattle.evaluator.specs.Ring.{Kept, Finished, Stopped, fell, ran-out, Ends, ends-done, ends-stop}
+use Rattle.evaluator.specs.Ring.{fell, ran-out, Ends, ends-done, ends-stop}
 use Rattle.language.specs.Bytes.{bytes}
-use Rattle.language.specs.Forms.{Prog, mainForm}
+use Rattle.language.specs.Forms.{mainForm}
 use Rattle.language.specs.Accepted.{IsName}
 use Rattle.language.specs.Meanings.{meaning}
-use Rattle.language.specs.Evaluation.{Out, value, bottom, spent, charged, inside, apply, lookup, noStep}
+use Rattle.language.specs.Evaluation.{Out, value, spent, charged, inside, noStep}
 use Rattle.language.specs.Charging.{stepCharge}
 use Rattle.language.proofs.Charging.{Left, step-asked, step-granted, step-spent, onCharge}
 use Rattle.tables.specs.Tables.{field}
-use Rattle.cells.specs.Cells.{Rep, Room, free}
+use Rattle.cells.specs.Cells.{Rep, free}
 use Rattle.cells.proofs.Reps.{same-refl, rep-ext}
-use Rattle.primitives.specs.Ends.{Made, Agree, Gives, gives-value, gives-bottom, gives-spent, Leaf, Sinks as Sinks-leaf}
-use Rattle.linker.specs.Linked.{FormIs, is-op, is-select, is-select-right, is-name, is-chain, is-construct, is-insert, is-all, is-condition, is-while, is-constant, is-bu, FormAt, form-at, DefAt, kindAt, constantAt, linkAt}
-use Rattle.evaluator.specs.Applying.{Setting, by, At, Given, Alone, a-word, a-select, a-select-right, a-constant, no-kind, Applied, Falls, Sinks, Chained, Built, Mapped, Inserted, Bound, Chosen, Repeated, Named, nameBy, Copied, Ran}
+use Rattle.primitives.specs.Ends.{Gives, gives-value, gives-bottom, gives-spent, Leaf, Sinks}
+use Rattle.linker.specs.Linked.{FormIs, is-op, is-select, is-select-right, is-name, is-chain, is-construct, is-insert, is-all, is-condition, is-while, is-constant, is-bu, form-at, kindAt, constantAt}
+use Rattle.evaluator.specs.Applying.{Setting, by, At, Given, Alone, a-word, a-select, a-select-right, a-constant, no-kind, Applied, Falls, Chained, Built, Mapped, Inserted, Bound, Chosen, Repeated, Named, Copied, Ran}
 use Rattle.primitives.specs.Leaves.{Coded}
 use Rattle.evaluator.proofs.Copies.{def-copied}
 use Rattle.primitives.proofs.Ending.{agree-self}
-use Rattle.evaluator.proofs.Steps.{Since, since-step, ends-since, ends-eq, gives-eq, kept-refl, given-charged, sinks-le}
+use Rattle.evaluator.proofs.Steps.{since-step, ends-since, ends-eq, gives-eq, kept-refl, given-charged}
 
 -- the number is no kind of a form with parts, and no name's
 pub record Bare (κ : ℕ) : Type 0 where
@@ -58,13 +57,13 @@ pub data Dispatched (F C W : List ℕ) (top i : ℕ) (v : Val) (m : Meter) : ℕ
   on-bu : {h : ℕ} {a : Val} {r : Ended} {C₁ W₁ : List ℕ} → h ≡ (i + 1) % 4294967296 → a ≡ constantAt F i → Bound F C W top h a v m r C₁ W₁ → Dispatched F C W top i v m 16 r C₁ W₁
 
 -- a word ends without the ring
-leaf-ends : {C C₁ : List ℕ} (W : List ℕ) (top : ℕ) {m : Meter} {e : Out Obj} (r : Ended) → length W ≡ 16384 → Sinks-leaf r m → Gives C m C₁ e r → Ends C W top m e C₁ W r
-leaf-ends W top {m} (Done v k) w s (gives-value {x = x} g) = ends-done {v = v} {m′ = k} (record { obj = x; is = refl; made = g; ring = w; kept = kept-refl W top (m .cells) (k .cells); names = s .1 })
-leaf-ends W top (Stop n k) w s (gives-bottom z a) = ends-stop (fell refl z a)
-leaf-ends W top (Stop n k) w s (gives-spent z a) = ends-stop (ran-out refl z a)
+leaf-ends : {C C₁ : List ℕ} (W : List ℕ) (top : ℕ) {m : Meter} {e : Out Obj} (r : Ended) → length W ≡ 16384 → Gives C m C₁ e r → Ends C W top m e C₁ W r
+leaf-ends W top {m} (Done v k) w (gives-value {x = x} g) = ends-done {v = v} {m′ = k} (record { obj = x; is = refl; made = g; ring = w; kept = kept-refl W top (m .cells) (k .cells) })
+leaf-ends W top (Stop n k) w (gives-bottom z a) = ends-stop (fell refl z a)
+leaf-ends W top (Stop n k) w (gives-spent z a) = ends-stop (ran-out refl z a)
 
 leaf : {F C W C₁ : List ℕ} {S : Setting} {k : ℕ} (top : ℕ) {v : Val} {m : Meter} {x : Obj} (r : Ended) {w : _} → Leaf C v m w r C₁ → Given F S k C W m v x → Ends C W top m (charged (meaning one w x) m) C₁ W r
-leaf {W = W} top {x = x} r l g = leaf-ends W top r (g .ring) (l .sinks) (l .means x (g .room) (g .arg))
+leaf {W = W} top {x = x} r l g = leaf-ends W top r (g .ring) (l .means x (g .room) (g .arg))
 
 constant-here : {F C W : List ℕ} {S : Setting} {k : ℕ} (top : ℕ) {v u : Val} {m : Meter} {x y : Obj} → Given F S k C W m v x → Rep (S .cells) (S .few) u y → Ends C W top m (value y m) C W (Done u m)
 constant-here {C = C} {W} top {u = u} {m} {y = y} g p = ends-done {v = u} {m′ = m} (record {
@@ -73,7 +72,6 @@ constant-here {C = C} {W} top {u = u} {m} {y = y} g p = ends-done {v = u} {m′ 
   made = record { rep = rep-ext (g .still) (g .low) p; same = same-refl C (free C m); room = g .room; fewer = omega arith; long = refl };
   ring = g .ring;
   kept = kept-refl W top (m .cells) (m .cells);
-  names = refl;
 })
 
 -- a form with no parts
@@ -115,15 +113,11 @@ dispatch {i = i} {x = x} S k b (is-condition {p = p} {f = f} {g = f₂} a a₁ a
 dispatch {i = i} {x = x} S k b (is-while {p = p} {f = f} a a₁) (on-while {h = h} q c) g = c .means S k p f x (rw (behind i h b q) at a) (rw (behind i h b q) at a₁) g
 dispatch {i = i} {x = x} S k b (is-bu {f = f} {x = y} p p₁) (on-bu {h = h} q z c) g = c .means S k f y x (rw (behind i h b q) at p) (rw z p₁) g
 
-leaf-sinks : (r : Ended) (m : Meter) → Sinks-leaf r m → Sinks r m
-leaf-sinks (Done v k) m s = s .0
-leaf-sinks (Stop n k) m s = tt
-
 alone-sinks : {F C C₁ : List ℕ} {κ i : ℕ} {v : Val} {m : Meter} (r : Ended) → Alone F C i v m κ r C₁ → Sinks r m
-alone-sinks {m = m} r (a-word l) = leaf-sinks r m (l .sinks)
-alone-sinks {m = m} r (a-select l) = leaf-sinks r m (l .sinks)
-alone-sinks {m = m} r (a-select-right l) = leaf-sinks r m (l .sinks)
-alone-sinks r a-constant = omega arith
+alone-sinks r (a-word l) = l .sinks
+alone-sinks r (a-select l) = l .sinks
+alone-sinks r (a-select-right l) = l .sinks
+alone-sinks r a-constant = (omega arith, refl)
 alone-sinks r (no-kind n1 n2 n3 n12) = tt
 
 dispatch-sinks : {F C W C₁ W₁ : List ℕ} {κ top i : ℕ} {v : Val} {m : Meter} (r : Ended) → Dispatched F C W top i v m κ r C₁ W₁ → Sinks r m
@@ -138,8 +132,8 @@ dispatch-sinks r (on-condition q c) = c .sinks
 dispatch-sinks r (on-while q c) = c .sinks
 dispatch-sinks r (on-bu q z c) = c .sinks
 
-falls-after : (r : Ended) (m m₁ : Meter) → Sinks r m₁ → m₁ .steps + 1 ≡ m .steps → Falls r m
-falls-after (Done v k) m m₁ s e = omega arith
+falls-after : (r : Ended) (m m₁ : Meter) → Sinks r m₁ → Left m m₁ 1 0 0 → Falls r m
+falls-after (Done v k) m m₁ s c = (omega (arith, s .0, c .steps), omega (arith, s .1, c .names))
 falls-after (Stop v k) m m₁ s e = tt
 
 apply-means : {F C W C₁ W₁ : List ℕ} {κ top i : ℕ} {v : Val} {m m₁ : Meter} {f : Form} {x : Obj} {r : Ended} (S : Setting) (k : ℕ) → kindAt F i ≡ κ → stepCharge m ≡ Granted m₁ → Left m m₁ 1 0 0 → Dispatched F C W top i v m₁ κ r C₁ W₁ → At F S i f → Given F S k C W m v x → Ends C W top m (by S k f x m) C₁ W₁ r
@@ -152,7 +146,7 @@ pub applied : {F C W C₁ W₁ : List ℕ} {κ κ₁ top i : ℕ} {v : Val} {m m
 applied {m = m} {m₁} {r = r} a b q z d =
     let e = sym a ∙ b in
     let c = step-granted m e in
-    record { falls = falls-after r m m₁ (dispatch-sinks r d) (c .steps); means = λ S k f x at g. apply-means S k (sym q ∙ z) e c d at g }
+    record { falls = falls-after r m m₁ (dispatch-sinks r d) c; means = λ S k f x at g. apply-means S k (sym q ∙ z) e c d at g }
 
 spent-means : (S : Setting) (f : Form) (x : Obj) (m : Meter) {m₁ : Meter} (k : ℕ) → stepCharge m ≡ Spent m₁ → by S k f x m ≡ spent noStep m₁
 spent-means S f x m zero e = ap (spent noStep) (step-spent m e .1)

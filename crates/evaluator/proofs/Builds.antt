@@ -1,29 +1,26 @@
 -- Constructions and apply to all in the tables against the definition.
-use Prim.Native.Nat.{ℕ, zero, suc, _+_, _-_, _*_, _≤_, _<_, _%_}
+use Prim.Native.Nat.{ℕ, _+_, _-_, _≤_, _<_, _%_}
 use native.Mathlib.Omega.{arith}
-use mathlib.Core.Path.{_≡_, refl, sym, ap, subst, _∙_}
-use mathlib.Core.List.{List, [], _∷_}
+use mathlib.Core.Path.{_≡_, refl, ap, subst, _∙_}
+use mathlib.Core.List.{List}
 use lib.ListN.{length}
-use Rattle.language.specs.Objects.{Obj, int, symbol, seq, Objs, nil, _::_, lengthOf}
-use Rattle.language.specs.Forms.{op, select, selectRight, Form, word, name, chain, construct, constant, insert, applyAll, bu, condition, while, Forms, stop, _&_, count}
-use Rattle.language.specs.Numbers.{one}
-use Rattle.language.specs.Meanings.{pair}
+use Rattle.language.specs.Objects.{Obj, seq, Objs, nil, _::_, lengthOf}
+use Rattle.language.specs.Forms.{Form, Forms, stop, _&_, count}
 use Rattle.language.specs.declared.Meter.{Meter}
-use Rattle.language.specs.declared.Charge.{Charge}
-use Rattle.language.specs.declared.Charge.the-variants.{Granted, Spent}
 use Rattle.language.specs.declared.Val.{Val}
 use Rattle.primitives.specs.declared.Ended.{Ended}
 use Rattle.primitives.specs.declared.Ended.the-variants.{Done, Stop}
-use Rattle.evaluator.specs.Ring.{Kept, Finished, Stopped, fell, ran-out, Ends, ends-done, ends-stop}
+use Rattle.evaluator.specs.Ring.{Stopped, fell, Ends, ends-stop}
 use Rattle.language.specs.Evaluation.{Out, value, bottom, bind, constructBy, eachBy, gathered, applyAllOn}
-use Rattle.cells.specs.Cells.{Rep, rep-pos, rep-neg, rep-symbol, rep-nil, rep-more, Room, free}
+use Rattle.cells.specs.Cells.{Rep, rep-pos, rep-neg, rep-symbol, rep-nil, rep-more, free}
 use Rattle.cells.specs.Parts.{holdAt, Sized, Headed, Tailed}
 use Rattle.cells.proofs.Reps.{rep-ext}
-use Rattle.linker.specs.Linked.{PartsAt, no-part, a-part, linkAt}
-use Rattle.evaluator.specs.Applying.{Setting, by, At, AllAt, Given, Applied, Falls, Sinks, Built, Mapped, PutAt, Slotted, Collected}
+use Rattle.cells.proofs.Ring.{hold-length}
+use Rattle.linker.specs.Linked.{no-part, a-part, linkAt}
+use Rattle.evaluator.specs.Applying.{Setting, by, At, AllAt, Given, Applied, Built, Mapped, Slotted, Collected}
 use Rattle.primitives.proofs.Ending.{agree-self}
-use Rattle.evaluator.proofs.Steps.{Since, since, since-refl, free-up, gave, gave-stop, ends-eq, stopped-eq, given-next, given-again, given-held, few-cells, applied-as, sinks-le}
-use Rattle.evaluator.proofs.Waits.{Waiting, wait-start, wait-next, wait-stop, wait-closed, length-hold}
+use Rattle.evaluator.proofs.Steps.{since-refl, free-up, gave, gave-stop, ends-eq, given-next, given-again, given-held, few-cells, applied-as, sinks-le}
+use Rattle.evaluator.proofs.Waits.{Waiting, wait-start, wait-next, wait-stop, wait-closed}
 
 -- ---- a value that waits
 pub slot-done : {F C W C₁ W₁ W₂ : List ℕ} {t i : ℕ} {v y : Val} {m k : Meter} {r : Ended} → Applied F C W t i v m r C₁ W₁ → r ≡ Done y k → W₂ ≡ holdAt W₁ t y → Slotted F C W t i v m (Done y k) C₁ W₂
@@ -36,7 +33,7 @@ slotted-as : {F C W C₁ W₁ : List ℕ} {t i : ℕ} {v : Val} {m : Meter} {r r
 slotted-as {F} {C} {W} {C₁} {W₁} {t} {i} {v} {m} e a = subst (λ r. Slotted F C W t i v m r C₁ W₁) e a
 
 pub slot-fell : {F C W C₁ W₁ : List ℕ} {t i : ℕ} {v y : Val} {m k : Meter} {r : Ended} → Slotted F C W t i v m r C₁ W₁ → r ≡ Done y k → k .steps < m .steps
-slot-fell s e = slotted-as e s .app .falls
+slot-fell s e = slotted-as e s .app .falls .0
 
 -- ---- a construction
 pub record BuildNow (F : List ℕ) (S : Setting) (k : ℕ) (Cs Ws : List ℕ) (top many : ℕ) (v : Val) (m : Meter) (x : Obj) (all : Out Objs) (C W : List ℕ) (j q : ℕ) (n : Meter) : Type 0 where
@@ -49,7 +46,7 @@ pub record BuildNow (F : List ℕ) (S : Setting) (k : ℕ) (Cs Ws : List ℕ) (t
 pub record Building (F Cs Ws : List ℕ) (top h many : ℕ) (v : Val) (m : Meter) (C W : List ℕ) (j q : ℕ) (n : Meter) : Type 0 where
   pub most : q ≤ many
   pub fits : j < 4294967296
-  pub sinks : n .steps ≤ m .steps
+  pub sinks : (n .steps ≤ m .steps) × (n .names ≡ m .names)
   pub longC : length C ≡ length Cs
   pub means : (S : Setting) (k : ℕ) (fs : Forms) (x : Obj) → count fs ≡ many → AllAt F S h fs → Given F S k Cs Ws m v x → BuildNow F S k Cs Ws top many v m x (constructBy (by S k) fs x m) C W j q n
 
@@ -57,7 +54,7 @@ pub build-start : {F C W : List ℕ} {top h many : ℕ} {v : Val} {m : Meter} �
 build-start {F} {C} {W} {top} {m = m} fj = record {
   most = omega arith;
   fits = fj;
-  sinks = omega arith;
+  sinks = (omega arith, refl);
   longC = refl;
   means = λ S k fs x ct p g. record { fs = fs; left = omega arith; at = p; given = g; waits = wait-start C W top m (constructBy (by S k) fs x) };
 }
@@ -66,14 +63,14 @@ step-build : {F Cs Ws C W C₁ W₁ : List ℕ} {top many j : ℕ} {v y : Val} {
 step-build S k q l ct no-part g b a = absurd (omega arith)
 step-build {W₁ = W₁} {top = top} {y = y} {x = x} S k q l ct (a-part {f = f} {fs = fs} fa ps) g b a =
     let u = gave (a .means S k f x fa g) in
-    record { fs = fs; left = omega arith; at = ps; given = given-held (given-again g (a .falls) u) (length-hold W₁ ((top + q) % 4096) y ∙ u .ring); waits = wait-next q (by S k f x) (constructBy (by S k) fs x) (few-cells (g .room) .0) b u }
+    record { fs = fs; left = omega arith; at = ps; given = given-held (given-again g (a .falls .0) u) (hold-length W₁ ((top + q) % 4096) y ∙ u .ring); waits = wait-next q (by S k f x) (constructBy (by S k) fs x) (few-cells (g .room) .0) b u }
 
 build-next : {F Cs Ws C W C₁ W₁ W₂ : List ℕ} {top h many j j₁ q : ℕ} {v y : Val} {m n n₁ : Meter} → q < many → Building F Cs Ws top h many v m C W j q n → Applied F C W ((top + q) % 4096) j v n (Done y n₁) C₁ W₁ → W₂ ≡ holdAt W₁ ((top + q) % 4096) y → j₁ ≡ linkAt F j → j₁ < 4294967296 → length C₁ ≡ length C → Building F Cs Ws top h many v m C₁ W₂ j₁ (q + 1) n₁
 build-next {q = q} l b a w z fj lc =
     rw w (record {
       most = omega arith;
       fits = fj;
-      sinks = omega (arith, a .falls, b .sinks);
+      sinks = (omega (arith, a .falls .0, b .sinks .0), a .falls .1 ∙ b .sinks .1);
       longC = lc ∙ b .longC;
       means = λ S k fs x ct p g. let h = b .means S k fs x ct p g in rw z (step-build S k q l (h .left) (h .at) (h .given) (h .waits) a);
     })
@@ -116,7 +113,7 @@ pub record MapNow (F : List ℕ) (S : Setting) (k : ℕ) (Cs Ws : List ℕ) (top
 
 pub record Mapping (F Cs Ws : List ℕ) (top g many : ℕ) (v : Val) (m : Meter) (C W : List ℕ) (s : Val) (q : ℕ) (n : Meter) : Type 0 where
   pub most : q ≤ many
-  pub sinks : n .steps ≤ m .steps
+  pub sinks : (n .steps ≤ m .steps) × (n .names ≡ m .names)
   pub longC : length C ≡ length Cs
   pub means : (S : Setting) (k : ℕ) (f : Form) (xs : Objs) → At F S g f → Given F S k Cs Ws m v (seq xs) → MapNow F S k Cs Ws top many v m f (seq xs) (eachBy (by S k) f xs m) C W s q n
 
@@ -150,7 +147,7 @@ map-atom {m = m} h = record { sinks = tt; means = λ S k f x fa g. ends-stop (fe
 pub map-start : {F C W : List ℕ} {top g many : ℕ} {v : Val} {m : Meter} → Sized v many → Mapping F C W top g many v m C W v 0 m
 map-start {C = C} {W} {top} {m = m} sz = record {
   most = omega arith;
-  sinks = omega arith;
+  sinks = (omega arith, refl);
   longC = refl;
   means = λ S k f xs fa g. record { xs = xs; left = omega (arith, sz .means C (free C m) xs (few-cells (g .room) .1) (g .arg)); rep = g .arg; given = g; waits = wait-start C W top m (eachBy (by S k) f xs) };
 }
@@ -165,7 +162,7 @@ step-map {C = C} {W} {C₁} {W₁} {top} {y = y} {n = n} {n₁} {f} S k q (z :: 
       xs = zs;
       left = omega arith;
       rep = tl .means (free C₁ n₁) z zs (few-cells (p .made .room) .1) (rep-ext (p .made .same) (free-up C C₁ n n₁ (p .made .fewer) (p .made .long)) r);
-      given = given-held (given-again g (a .falls) p) (length-hold W₁ ((top + q) % 4096) y ∙ p .ring);
+      given = given-held (given-again g (a .falls .0) p) (hold-length W₁ ((top + q) % 4096) y ∙ p .ring);
       waits = wait-next q (by S k f z) (eachBy (by S k) f zs) (few-cells (g .room) .0) b p;
     }
 
@@ -173,7 +170,7 @@ map-next : {F Cs Ws C W C₁ W₁ W₂ : List ℕ} {top g many q : ℕ} {v s s�
 map-next {q = q} l b hd a w tl lc =
     rw w (record {
       most = omega arith;
-      sinks = omega (arith, a .falls, b .sinks);
+      sinks = (omega (arith, a .falls .0, b .sinks .0), a .falls .1 ∙ b .sinks .1);
       longC = lc ∙ b .longC;
       means = λ S k f xs fa g. let h = b .means S k f xs fa g in step-map S k q (h .xs) l (h .left) fa (h .rep) (h .given) (h .waits) hd tl a;
     })

@@ -1,31 +1,29 @@
 -- Chains, conditions and names in the tables against the definition.
-use Prim.Native.Nat.{ℕ, zero, suc, _+_, _-_, _*_, _≤_, _<_, _%_}
+use Prim.Native.Nat.{ℕ, zero, suc, _+_, _-_, _*_, _≤_, _<_}
 use native.Mathlib.Omega.{arith}
 use mathlib.Core.Path.{_≡_, refl, sym, ap, subst, _∙_}
-use mathlib.Core.Bool.{Bool, true, false, cond}
-use mathlib.Core.List.{List, [], _∷_}
-use lib.Dec.{leb}
-use mathlib.Core.Option.{Option, some, none}
+use mathlib.Core.List.{List}
+use mathlib.Core.Option.{Option, some}
 use lib.ListN.{length}
 use Rattle.language.specs.Objects.{Obj, truthOf, Truth, isT, isF, neither}
 use Rattle.language.specs.Forms.{Form, Forms, stop, _&_, _+&_}
 use Rattle.language.specs.Accepted.{IsName}
-use Rattle.language.specs.Evaluation.{Out, value, bottom, spent, bind, close, Apply, apply, lookup, askName, chainBy, decide, noName}
-use Rattle.language.specs.Charging.{stepCharge, cellsCharge, nameCharge, closed, withNames}
+use Rattle.language.specs.Evaluation.{Out, value, bottom, spent, bind, close, Apply, lookup, chainBy, decide, noName}
+use Rattle.language.specs.Charging.{nameCharge, nameGiven, withNames}
 use Rattle.language.specs.declared.Meter.{Meter}
 use Rattle.language.specs.declared.Charge.{Charge}
 use Rattle.language.specs.declared.Charge.the-variants.{Granted, Spent}
 use Rattle.language.specs.declared.Val.{Val}
-use Rattle.language.proofs.Charging.{Left, name-asked, closed-is, name-granted, name-spent, onCharge}
-use Rattle.cells.specs.Cells.{Rep, Same, Room, free}
+use Rattle.language.proofs.Charging.{Left, name-asked, name-given, name-granted, onCharge}
+use Rattle.cells.specs.Cells.{free}
 use Rattle.primitives.specs.declared.Ended.{Ended}
 use Rattle.primitives.specs.declared.Ended.the-variants.{Done, Stop}
-use Rattle.primitives.specs.Ends.{Made, Agree}
+use Rattle.primitives.specs.Shapes.{truthCode, ReadTruth}
 use Rattle.evaluator.specs.declared.waiting.Asked.{Asked}
 use Rattle.evaluator.specs.declared.waiting.Asked.the-variants.{Says, Stop as AskStop}
-use Rattle.linker.specs.Linked.{FormAt, form-at, UpTo, none-yet, one-more, DefAt, no-def, a-def, linkAt}
-use Rattle.evaluator.specs.Ring.{Kept, Finished, Stopped, fell, ran-out, Ends, ends-done, ends-stop}
-use Rattle.evaluator.specs.Applying.{Setting, by, At, LastAt, Given, Applied, Falls, Sinks, Chained, Chosen, Named, nameBy, Judged, Branch, Answers, says-yes, says-no, says-stop, Questioned, Lessens}
+use Rattle.linker.specs.Linked.{FormAt, none-yet, one-more, DefAt, no-def, a-def, linkAt}
+use Rattle.evaluator.specs.Ring.{Finished, Stopped, fell, ran-out, ends-done, ends-stop}
+use Rattle.evaluator.specs.Applying.{Setting, by, At, LastAt, Given, Applied, Chained, Chosen, Named, nameBy, Branch, Answers, says-yes, says-no, says-stop, Questioned}
 use Rattle.primitives.proofs.Ending.{agree-self}
 use Rattle.evaluator.proofs.Steps.{Since, since, since-refl, since-trans, gave, gave-stop, ends-since, ends-eq, stopped-eq, stopped-bind, stopped-close, given-value, given-again, given-charged, applied-as, sinks-after, decide-true, decide-false, decide-none}
 
@@ -54,14 +52,14 @@ pub record ChainNow (F : List ℕ) (S : Setting) (k : ℕ) (Cs Ws : List ℕ) (t
   pub whole : e ≡ chainBy (by S k) fs x n
 
 pub record Chaining (F Cs Ws : List ℕ) (top last : ℕ) (v₀ : Val) (m : Meter) (C W : List ℕ) (j : ℕ) (v : Val) (n : Meter) : Type 0 where
-  pub sinks : n .steps ≤ m .steps
+  pub sinks : (n .steps ≤ m .steps) × (n .names ≡ m .names)
   pub fits : j < 4294967296
   pub longC : length C ≡ length Cs
   pub means : (S : Setting) (k : ℕ) (fs : Forms) (x : Obj) → LastAt F S last fs → Given F S k Cs Ws m v₀ x → ChainNow F S k Cs Ws top m (chainBy (by S k) fs x m) C W j v n
 
 pub chain-start : {F C W : List ℕ} {top j : ℕ} {v : Val} {m : Meter} → j < 4294967296 → Chaining F C W top j v m C W j v m
 chain-start {F} {C} {W} {top} {m = m} z = record {
-  sinks = omega arith;
+  sinks = (omega arith, refl);
   fits = z;
   longC = refl;
   means = λ S k fs x p g. record { fs = fs; x = x; parts = p; given = g; since = since-refl C W top m; whole = refl };
@@ -75,7 +73,7 @@ step-chain {n = n} {x = x} S k z (one-more {f = f} {before = before} l fa ps q) 
       fs = before;
       x = u .obj;
       parts = ps;
-      given = given-value g (a .falls) u;
+      given = given-value g (a .falls .0) u;
       since = since-trans s (since u);
       whole = w ∙ ap (λ h. chainBy (by S k) h x n) q ∙ chain-last (by S k) before f x n ∙ ap (λ h. bind h (chainBy (by S k) before)) (u .is);
     }
@@ -84,7 +82,7 @@ pub chain-next : {F Cs Ws C W C₁ W₁ : List ℕ} {top last j j₁ : ℕ} {v�
 chain-next z c a e q fj lc =
     let b = applied-as e a in
     record {
-      sinks = omega (arith, b .falls, c .sinks);
+      sinks = (omega (arith, b .falls .0, c .sinks .0), b .falls .1 ∙ c .sinks .1);
       fits = fj;
       longC = lc ∙ c .longC;
       means = λ S k fs x p g. let h = c .means S k fs x p g in rw q (step-chain S k z (h .parts) (h .given) (h .since) (h .whole) b);
@@ -102,7 +100,7 @@ chain-stop z c a e = record {
 }
 
 end-chain : {F Cs Ws C W : List ℕ} {top j : ℕ} {v : Val} {m n : Meter} {e : Out Obj} {fs : Forms} {x : Obj} (S : Setting) (k : ℕ) → j ≡ 0 → LastAt F S j fs → Given F S k C W n v x → Since Cs Ws top m C W n → e ≡ chainBy (by S k) fs x n → Finished Cs Ws top m e v n C W
-end-chain {x = x} S k z (none-yet h) g s w = record { obj = x; is = w; made = record { rep = g .arg; same = s .same; room = g .room; fewer = s .fewer; long = s .long }; ring = g .ring; kept = s .kept; names = s .names }
+end-chain {x = x} S k z (none-yet h) g s w = record { obj = x; is = w; made = record { rep = g .arg; same = s .same; room = g .room; fewer = s .fewer; long = s .long }; ring = g .ring; kept = s .kept }
 end-chain S k z (one-more l fa ps q) g s w = absurd (omega arith)
 
 pub chain-end : {F Cs Ws C W : List ℕ} {top last j : ℕ} {v₀ v : Val} {m n : Meter} → j ≡ 0 → Chaining F Cs Ws top last v₀ m C W j v n → Chained F Cs Ws top last v₀ m (Done v n) C W
@@ -111,37 +109,55 @@ chain-end z c = record {
   means = λ S k fs x p g. let h = c .means S k fs x p g in ends-done (end-chain S k z (h .parts) (h .given) (h .since) (h .whole));
 }
 
--- ---- a question
+-- ---- a question: what the number says that its value was read as
+is-yes : (t : Truth) → 1 ≡ truthCode t → t ≡ isT
+is-yes isT e = refl
+is-yes isF e = absurd (omega arith)
+is-yes neither e = absurd (omega arith)
+
+is-no : (t : Truth) → 0 ≡ truthCode t → t ≡ isF
+is-no isT e = absurd (omega arith)
+is-no isF e = refl
+is-no neither e = absurd (omega arith)
+
+is-neither : {n : ℕ} (t : Truth) → n ≡ truthCode t → (n ≡ 1 → ⊥) → (n ≡ 0 → ⊥) → t ≡ neither
+is-neither isT e h z = absurd (h e)
+is-neither isF e h z = absurd (z e)
+is-neither neither e h z = refl
+
 pub ask-stop : {F C W C₁ W₁ : List ℕ} {top h a : ℕ} {v : Val} {m n : Meter} {r : Ended} → Applied F C W top h v m r C₁ W₁ → r ≡ Stop a n → Questioned F C W top h v m (AskStop a n) C₁ W₁
 ask-stop a e = record { falls = tt; means = λ S k p x at gv. says-stop (λ onT onF. stopped-bind (λ b m₁. decide b m₁ onT onF) (gave-stop (applied-as e a .means S k p x at gv))) }
 
-pub ask-yes : {F C W C₁ W₁ : List ℕ} {top h b : ℕ} {v y : Val} {m n : Meter} {r : Ended} → Applied F C W top h v m r C₁ W₁ → r ≡ Done y n → Judged y b → b ≡ 1 → Questioned F C W top h v m (Says 1 n) C₁ W₁
-ask-yes {C₁ = C₁} {n = n} a e jd t =
+pub ask-yes : {F C W C₁ W₁ : List ℕ} {top h b : ℕ} {v y : Val} {m n : Meter} {r : Ended} → Applied F C W top h v m r C₁ W₁ → r ≡ Done y n → ReadTruth y b → b ≡ 1 → Questioned F C W top h v m (Says 1 n) C₁ W₁
+ask-yes {C₁ = C₁} {n = n} a e rt t =
     let a′ = applied-as e a in
-    record { falls = a′ .falls; means = λ S k p x at gv. let u = gave (a′ .means S k p x at gv) in says-yes u (jd .is-true t C₁ (free C₁ n) (u .obj) (u .made .rep)) }
+    record { falls = a′ .falls; means = λ S k p x at gv. let u = gave (a′ .means S k p x at gv) in says-yes u (is-yes (truthOf (u .obj)) (sym t ∙ rt .means C₁ (free C₁ n) (u .obj) (u .made .rep))) }
 
-pub ask-no : {F C W C₁ W₁ : List ℕ} {top h b : ℕ} {v y : Val} {m n : Meter} {r : Ended} → Applied F C W top h v m r C₁ W₁ → r ≡ Done y n → Judged y b → b ≡ 0 → Questioned F C W top h v m (Says 0 n) C₁ W₁
-ask-no {C₁ = C₁} {n = n} a e jd t =
+pub ask-no : {F C W C₁ W₁ : List ℕ} {top h b : ℕ} {v y : Val} {m n : Meter} {r : Ended} → Applied F C W top h v m r C₁ W₁ → r ≡ Done y n → ReadTruth y b → b ≡ 0 → Questioned F C W top h v m (Says 0 n) C₁ W₁
+ask-no {C₁ = C₁} {n = n} a e rt t =
     let a′ = applied-as e a in
-    record { falls = a′ .falls; means = λ S k p x at gv. let u = gave (a′ .means S k p x at gv) in says-no u (jd .is-false t C₁ (free C₁ n) (u .obj) (u .made .rep)) }
+    record { falls = a′ .falls; means = λ S k p x at gv. let u = gave (a′ .means S k p x at gv) in says-no u (is-no (truthOf (u .obj)) (sym t ∙ rt .means C₁ (free C₁ n) (u .obj) (u .made .rep))) }
 
-pub ask-none : {F C W C₁ W₁ : List ℕ} {top h b : ℕ} {v y : Val} {m n : Meter} {r : Ended} → Applied F C W top h v m r C₁ W₁ → r ≡ Done y n → Judged y b → (b ≡ 1 → ⊥) → (b ≡ 0 → ⊥) → Questioned F C W top h v m (AskStop 21 n) C₁ W₁
-ask-none {C₁ = C₁} {n = n} a e jd d t =
+pub ask-none : {F C W C₁ W₁ : List ℕ} {top h b : ℕ} {v y : Val} {m n : Meter} {r : Ended} → Applied F C W top h v m r C₁ W₁ → r ≡ Done y n → ReadTruth y b → (b ≡ 1 → ⊥) → (b ≡ 0 → ⊥) → Questioned F C W top h v m (AskStop 21 n) C₁ W₁
+ask-none {C₁ = C₁} {n = n} a e rt d t =
     let a′ = applied-as e a in
     record {
       falls = tt;
       means = λ S k p x at gv.
           let u = gave (a′ .means S k p x at gv) in
-          says-stop (λ onT onF. fell (ap (λ w. bind w (λ b m₁. decide b m₁ onT onF)) (u .is) ∙ decide-none (u .obj) n onT onF (jd .is-none d t C₁ (free C₁ n) (u .obj) (u .made .rep))) refl (agree-self n));
+          says-stop (λ onT onF. fell (ap (λ w. bind w (λ b m₁. decide b m₁ onT onF)) (u .is) ∙ decide-none (u .obj) n onT onF (is-neither (truthOf (u .obj)) (rt .means C₁ (free C₁ n) (u .obj) (u .made .rep)) d t)) refl (agree-self n));
     }
 
 asked-as : {F C W C₁ W₁ : List ℕ} {top i : ℕ} {v : Val} {m : Meter} {r r′ : Asked} → r ≡ r′ → Questioned F C W top i v m r C₁ W₁ → Questioned F C W top i v m r′ C₁ W₁
 asked-as {F} {C} {W} {C₁} {W₁} {top} {i} {v} {m} e a = subst (λ r. Questioned F C W top i v m r C₁ W₁) e a
 
 pub says-fell : {F C W C₁ W₁ : List ℕ} {top h b : ℕ} {v : Val} {m k : Meter} {r : Asked} → Questioned F C W top h v m r C₁ W₁ → r ≡ Says b k → k .steps < m .steps
-says-fell a e = asked-as e a .falls
+says-fell a e = asked-as e a .falls .0
 
-pub below-says : {F C W C₁ W₁ : List ℕ} {top h b : ℕ} {v : Val} {m k : Meter} {r : Asked} (t : ℕ) → Questioned F C W top h v m r C₁ W₁ → r ≡ Says b k → 4 * m .steps + 3 ≡ t → 4 * k .steps + 1 < t
+pub says-names : {F C W C₁ W₁ : List ℕ} {top h b : ℕ} {v : Val} {m k : Meter} {r : Asked} → Questioned F C W top h v m r C₁ W₁ → r ≡ Says b k → k .names ≡ m .names
+says-names a e = asked-as e a .falls .1
+
+pub below-says : {F C W C₁ W₁ : List ℕ} {top h b : ℕ} {v : Val} {m k : Meter} {r : Asked} (t : ℕ) → Questioned F C W top h v m r C₁ W₁ → r ≡ Says b k → 5 * m .steps + 4 ≡ t → 5 * k .steps + 1 < t
 below-says t a e q = omega (arith, says-fell a e)
 
 -- what the question's outcome was
@@ -183,7 +199,7 @@ cond-stop a e = record { sinks = tt; means = λ S k p f g x at ft gt gv. ends-st
 
 cond-true : {F C W C₁ W₁ C₂ W₂ : List ℕ} {top h b j : ℕ} {v : Val} {m n : Meter} {r : Asked} {r₂ : Ended} → Questioned F C W top h v m r C₁ W₁ → r ≡ Says b n → (b ≡ 0 → ⊥) → j ≡ linkAt F h → Applied F C₁ W₁ top j v n r₂ C₂ W₂ → Chosen F C W top h v m r₂ C₂ W₂
 cond-true {m = m} {n} {r₂ = r₂} a e y z b = record {
-  sinks = sinks-after r₂ m n (b .falls) (says-fell a e);
+  sinks = sinks-after r₂ m n (b .falls) (says-fell a e, says-names a e);
   means = λ S k p f g x at ft gt gv.
       let u = on-yes S k a e y at gv in
       ends-eq (decided-yes (by S k f x) (by S k g x) u) (ends-since (since (u .done)) (b .means S k f x (rw z ft) (given-again gv (says-fell a e) (u .done))));
@@ -191,7 +207,7 @@ cond-true {m = m} {n} {r₂ = r₂} a e y z b = record {
 
 cond-false : {F C W C₁ W₁ C₂ W₂ : List ℕ} {top h b j : ℕ} {v : Val} {m n : Meter} {r : Asked} {r₂ : Ended} → Questioned F C W top h v m r C₁ W₁ → r ≡ Says b n → b ≡ 0 → j ≡ linkAt F (linkAt F h) → Applied F C₁ W₁ top j v n r₂ C₂ W₂ → Chosen F C W top h v m r₂ C₂ W₂
 cond-false {m = m} {n} {r₂ = r₂} a e y z b = record {
-  sinks = sinks-after r₂ m n (b .falls) (says-fell a e);
+  sinks = sinks-after r₂ m n (b .falls) (says-fell a e, says-names a e);
   means = λ S k p f g x at ft gt gv.
       let u = on-no S k a e y at gv in
       ends-eq (decided-no (by S k f x) (by S k g x) u) (ends-since (since (u .done)) (b .means S k g x (rw z gt) (given-again gv (says-fell a e) (u .done))));
@@ -246,10 +262,14 @@ name-stop {m = m} {m₁} z a b p e = record {
       (stopped-close (m .names) (gave-stop (applied-as e p .means S k (y .form) x (y .at) (given-charged 0 1 k c (omega arith) gv)))));
 }
 
+-- where a name was opened, a body that ended leaves room to close it
+pub may-close : (m : Meter) {F C W C₁ W₁ : List ℕ} {top i : ℕ} {v y : Val} {m₁ n : Meter} {ch : Charge} {r : Ended} → Applied F C W top i v m₁ r C₁ W₁ → r ≡ Done y n → ch ≡ nameCharge m → ch ≡ Granted m₁ → m .names < 4294967296 → n .names < 4294967295
+may-close m p e a b l = omega (arith, applied-as e p .falls .1, name-granted m (sym a ∙ b) .names)
+
 -- the names are as before once the name is closed
-closed-body : {C W C₁ W₁ : List ℕ} {top : ℕ} {y : Val} {m m₁ n n₁ : Meter} {e e₁ : Out Obj} → e ≡ close (m .names) e₁ → m .names < 4294967296 → Left m m₁ 0 1 0 → n₁ ≡ closed n → Finished C W top m₁ e₁ y n C₁ W₁ → Finished C W top m e y n₁ C₁ W₁
-closed-body {C} {C₁ = C₁} {m = m} {m₁} {n} q l c z u =
-    let w : closed n ≡ withNames (m .names) n = closed-is (m .names) n (omega (arith, u .names, c .names)) l in
+closed-body : {C W C₁ W₁ : List ℕ} {top : ℕ} {y : Val} {m m₁ n n₁ : Meter} {e e₁ : Out Obj} → e ≡ close (m .names) e₁ → Left m m₁ 0 1 0 → n .names ≡ m₁ .names → n₁ ≡ nameGiven n → Finished C W top m₁ e₁ y n C₁ W₁ → Finished C W top m e y n₁ C₁ W₁
+closed-body {C} {C₁ = C₁} {m = m} {m₁} {n} q c ns z u =
+    let w : nameGiven n ≡ withNames (m .names) n = name-given (m .names) n (omega (arith, c .names)) in
     let f : free C m ≡ free C m₁ = omega (arith, c .cells) in
     let k : m₁ .cells ≡ m .cells = omega (arith, c .cells) in
     rw (z, w) (record {
@@ -258,27 +278,15 @@ closed-body {C} {C₁ = C₁} {m = m} {m₁} {n} q l c z u =
       made = record { rep = u .made .rep; same = rw f (u .made .same); room = record { fits = u .made .room .fits; small = u .made .room .small }; fewer = omega (arith, u .made .fewer); long = u .made .long };
       ring = u .ring;
       kept = record { keep = λ d h s. u .kept .keep d h (omega arith) };
-      names = refl;
     })
 
-closed-steps : (n : Meter) → closed n .steps ≡ n .steps
-unfolding closed
-closed-steps n = go (leb 4294967295 (n .names)) refl
-  where
-    go : (b : Bool) → leb 4294967295 (n .names) ≡ b → cond (leb 4294967295 (n .names)) n (record { steps = n .steps; names = n .names + 1; cells = n .cells }) .steps ≡ n .steps
-    go true e = rw e
-    go false e = rw e
-
-closed-sinks : (m n n₁ : Meter) → n .steps ≤ m .steps → n₁ ≡ closed n → n₁ .steps ≤ m .steps
-closed-sinks m n n₁ h e = omega (arith, closed-steps n, ap (λ u. u .steps) e)
-
-pub name-done : {F C W C₁ W₁ : List ℕ} {top d : ℕ} {v y : Val} {m m₁ n n₁ : Meter} {ch : Charge} {r : Ended} → (d ≡ 0 → ⊥) → m .names < 4294967296 → ch ≡ nameCharge m → ch ≡ Granted m₁ → Applied F C W top (d - 1) v m₁ r C₁ W₁ → r ≡ Done y n → n₁ ≡ closed n → Named F C W top d v m (Done y n₁) C₁ W₁
-name-done {m = m} {m₁} {n} {n₁} z l a b p e cl =
+pub name-done : {F C W C₁ W₁ : List ℕ} {top d : ℕ} {v y : Val} {m m₁ n n₁ : Meter} {ch : Charge} {r : Ended} → (d ≡ 0 → ⊥) → ch ≡ nameCharge m → ch ≡ Granted m₁ → Applied F C W top (d - 1) v m₁ r C₁ W₁ → r ≡ Done y n → n₁ ≡ nameGiven n → Named F C W top d v m (Done y n₁) C₁ W₁
+name-done {m = m} {m₁} {n} {n₁} z a b p e cl =
     let c = name-granted m (sym a ∙ b) in
     let p₁ = applied-as e p in
     record {
-      sinks = closed-sinks m n n₁ (omega (arith, p₁ .falls, c .steps)) cl;
+      sinks = (omega (arith, p₁ .falls .0, c .steps, ap (λ u. u .steps) cl), omega (arith, p₁ .falls .1, c .names, ap (λ u. u .names) cl));
       means = λ S k w x nm q gv. let y = body w nm z q gv in
-          ends-done (closed-body (body-asked (by S k) (y .form) x m (y .is) ∙ ap (λ u. onCharge u noName (λ m₁. close (m .names) (by S k (y .form) x m₁))) (sym a ∙ b)) l c cl
+          ends-done (closed-body (body-asked (by S k) (y .form) x m (y .is) ∙ ap (λ u. onCharge u noName (λ m₁. close (m .names) (by S k (y .form) x m₁))) (sym a ∙ b)) c (p₁ .falls .1) cl
           (gave (p₁ .means S k (y .form) x (y .at) (given-charged 0 1 k c (omega arith) gv))));
     }

@@ -1,10 +1,11 @@
 pub mod Steps
 pub mod Chains
+pub mod Spreads
 pub mod Waits
 pub mod Builds
 pub mod Copies
 pub mod Repeats
 pub mod Pairs
+pub mod Inserts
 pub mod Applies
 pub mod Numbers
-pub mod Verdicts

@@ -1,31 +1,24 @@
 -- A while in the tables against the definition.
-use Prim.Native.Nat.{ℕ, zero, suc, _+_, _-_, _*_, _≤_, _<_, _%_}
+use Prim.Native.Nat.{ℕ, zero, suc, _+_, _-_, _*_, _≤_, _<_}
 use native.Mathlib.Omega.{arith}
-use mathlib.Core.Path.{_≡_, refl, sym, ap, subst, _∙_}
-use mathlib.Core.List.{List, [], _∷_}
+use mathlib.Core.Path.{_≡_, refl, sym, ap, _∙_}
+use mathlib.Core.List.{List}
 use lib.ListN.{length}
-use Rattle.language.specs.Objects.{Obj, int, symbol, seq, Objs, nil, _::_, lengthOf}
-use Rattle.language.specs.Forms.{op, select, selectRight, Form, word, name, chain, construct, constant, insert, applyAll, bu, condition, while, Forms, stop, _&_, count}
+use Rattle.language.specs.Objects.{Obj}
+use Rattle.language.specs.Forms.{Form, while}
 use Rattle.language.specs.Numbers.{one}
-use Rattle.language.specs.Meanings.{pair}
 use Rattle.language.specs.declared.Meter.{Meter}
-use Rattle.language.specs.declared.Charge.{Charge}
-use Rattle.language.specs.declared.Charge.the-variants.{Granted, Spent}
 use Rattle.language.specs.declared.Val.{Val}
 use Rattle.primitives.specs.declared.Ended.{Ended}
 use Rattle.primitives.specs.declared.Ended.the-variants.{Done, Stop}
-use Rattle.evaluator.specs.Ring.{Kept, Finished, Stopped, fell, ran-out, Ends, ends-done, ends-stop}
-use Rattle.language.specs.Objects.{truthOf, isT, isF, neither}
-use Rattle.language.specs.Evaluation.{Out, value, bottom, spent, bind, decide, whileBy, apply, inside, askStep, noStep}
-use Rattle.language.specs.Charging.{stepCharge}
-use Rattle.language.proofs.Charging.{step-asked, onCharge}
-use Rattle.cells.specs.Cells.{Rep, Room, free}
+use Rattle.evaluator.specs.Ring.{Stopped, ends-done, ends-stop}
+use Rattle.language.specs.Evaluation.{Out, value, spent, bind, decide, whileBy, inside, noStep}
 use Rattle.evaluator.specs.declared.waiting.Asked.{Asked}
 use Rattle.evaluator.specs.declared.waiting.Asked.the-variants.{Says, Stop as AskStop}
 use Rattle.linker.specs.Linked.{linkAt}
-use Rattle.evaluator.specs.Applying.{Setting, by, At, Given, Applied, Falls, Sinks, Repeated, Questioned}
-use Rattle.evaluator.proofs.Steps.{Since, since, since-refl, since-trans, gave, gave-stop, ends-eq, stopped-eq, stopped-bind, given-value, given-again, applied-as, fell-by}
-use Rattle.evaluator.proofs.Chains.{Said, says-fell, on-yes, on-no, on-stop, decided-yes, decided-no}
+use Rattle.evaluator.specs.Applying.{Setting, by, At, Given, Applied, Repeated, Questioned}
+use Rattle.evaluator.proofs.Steps.{Since, since, since-refl, since-trans, gave, gave-stop, stopped-eq, stopped-bind, given-value, given-again, applied-as, fell-by}
+use Rattle.evaluator.proofs.Chains.{says-fell, says-names, on-yes, on-no, on-stop, decided-yes, decided-no}
 
 pub record RepeatNow (F : List ℕ) (S : Setting) (k : ℕ) (Cs Ws : List ℕ) (top : ℕ) (m : Meter) (p f : Form) (e : Out Obj) (C W : List ℕ) (v : Val) (n : Meter) : Type 0 where
   pub j : ℕ
@@ -36,13 +29,13 @@ pub record RepeatNow (F : List ℕ) (S : Setting) (k : ℕ) (Cs Ws : List ℕ) (
   pub whole : e ≡ whileBy (by S k) j p f x n
 
 pub record Repeating (F Cs Ws : List ℕ) (top h : ℕ) (v₀ : Val) (m : Meter) (C W : List ℕ) (v : Val) (n : Meter) : Type 0 where
-  pub sinks : n .steps ≤ m .steps
+  pub sinks : (n .steps ≤ m .steps) × (n .names ≡ m .names)
   pub longC : length C ≡ length Cs
   pub means : (S : Setting) (k : ℕ) (p f : Form) (x : Obj) → At F S h p → At F S (linkAt F h) f → Given F S k Cs Ws m v₀ x → RepeatNow F S k Cs Ws top m p f (whileBy (by S k) k p f x m) C W v n
 
 pub repeat-start : {F C W : List ℕ} {top h : ℕ} {v : Val} {m : Meter} → Repeating F C W top h v m C W v m
 repeat-start {C = C} {W} {top} {m = m} = record {
-  sinks = omega arith;
+  sinks = (omega arith, refl);
   longC = refl;
   means = λ S k p f x pa fa g. record { j = k; x = x; given = g; since = since-refl C W top m; low = g .fuel; whole = refl };
 }
@@ -74,13 +67,13 @@ repeat-stop {n = n} {n₁} c b e = record {
 
 pub repeat-done : {F Cs Ws C W C₁ W₁ : List ℕ} {top h z : ℕ} {v₀ v : Val} {m n n₁ : Meter} {r : Asked} → Repeating F Cs Ws top h v₀ m C W v n → Questioned F C W top h v n r C₁ W₁ → r ≡ Says z n₁ → z ≡ 0 → Repeated F Cs Ws top h v₀ m (Done v n₁) C₁ W₁
 repeat-done {v = v} {n = n} {n₁} c b e y = record {
-  sinks = omega (arith, says-fell b e, c .sinks);
+  sinks = (omega (arith, says-fell b e, c .sinks .0), says-names b e ∙ c .sinks .1);
   means = λ S k p f x pa fa g. let t = c .means S k p f x pa fa g in
       let u = on-no S k b e y pa (t .given) in
       let w = turned (t .j) k S p f (t .x) n (t .low) (omega (arith, says-fell b e)) in
       let s = since-trans (t .since) (since (u .done)) in
       let a = given-again (t .given) (says-fell b e) (u .done) in
-      ends-done {v = v} {m′ = n₁} (record { obj = t .x; is = t .whole ∙ w .2 ∙ decided-no (onT S k (w .0) p f (t .x)) (λ m₂. value (t .x) m₂) u; made = record { rep = a .arg; same = s .same; room = a .room; fewer = s .fewer; long = s .long }; ring = a .ring; kept = s .kept; names = s .names });
+      ends-done {v = v} {m′ = n₁} (record { obj = t .x; is = t .whole ∙ w .2 ∙ decided-no (onT S k (w .0) p f (t .x)) (λ m₂. value (t .x) m₂) u; made = record { rep = a .arg; same = s .same; room = a .room; fewer = s .fewer; long = s .long }; ring = a .ring; kept = s .kept });
 }
 
 -- the question said T, and then f
@@ -104,7 +97,7 @@ module _ {F Cs Ws C W C₁ W₁ C₂ W₂ : List ℕ} {top h g z : ℕ} {v₀ v 
   repeat-next {n₂ = n₂} e2 l1 l2 =
       let d = applied-as e2 ap2 in
       record {
-        sinks = omega (arith, says-fell b e, d .falls, c .sinks);
+        sinks = (omega (arith, says-fell b e, d .falls .0, c .sinks .0), d .falls .1 ∙ says-names b e ∙ c .sinks .1);
         longC = l2 ∙ l1 ∙ c .longC;
         means = λ S k p f x pa fa gv. let t = c .means S k p f x pa fa gv in
             let u = on-yes S k b e y pa (t .given) in
@@ -114,12 +107,12 @@ module _ {F Cs Ws C W C₁ W₁ C₂ W₂ : List ℕ} {top h g z : ℕ} {v₀ v 
             record {
               j = w .0;
               x = s .obj;
-              given = given-value ga (d .falls) s;
+              given = given-value ga (d .falls .0) s;
               since = since-trans (t .since) (since-trans (since (u .done)) (since s));
-              low = omega (arith, w .1, says-fell b e, d .falls);
+              low = omega (arith, w .1, says-fell b e, d .falls .0);
               whole = t .whole ∙ w .2 ∙ decided-yes (onT S k (w .0) p f (t .x)) (λ m₂. value (t .x) m₂) u ∙ ap (λ a. bind a (λ y m₃. whileBy (by S k) (w .0) p f y m₃)) (s .is);
             };
       }
 
-pub below-turn : {F Cs Ws C W C₁ W₁ : List ℕ} {top h z : ℕ} {v₀ v : Val} {m n n₁ : Meter} {r : Asked} (t : ℕ) → Repeating F Cs Ws top h v₀ m C W v n → Questioned F C W top h v n r C₁ W₁ → r ≡ Says z n₁ → 4 * m .steps + 3 ≡ t → 4 * n₁ .steps + 1 < t
-below-turn t c b e q = omega (arith, says-fell b e, c .sinks)
+pub below-turn : {F Cs Ws C W C₁ W₁ : List ℕ} {top h z : ℕ} {v₀ v : Val} {m n n₁ : Meter} {r : Asked} (t : ℕ) → Repeating F Cs Ws top h v₀ m C W v n → Questioned F C W top h v n r C₁ W₁ → r ≡ Says z n₁ → 5 * m .steps + 4 ≡ t → 5 * n₁ .steps + 1 < t
+below-turn t c b e q = omega (arith, says-fell b e, c .sinks .0)

@@ -1,25 +1,24 @@
 -- One part of a run after the other: what is kept, what is given next, and how an outcome carries on.
-use Prim.Native.Nat.{ℕ, zero, suc, _+_, _-_, _*_, _/_, _≤_, _<_, _%_}
+use Prim.Native.Nat.{ℕ, _+_, _-_, _*_, _≤_, _<_}
 use native.Mathlib.Omega.{arith}
 use mathlib.Core.Path.{_≡_, refl, sym, ap, subst, _∙_}
-use mathlib.Core.List.{List, [], _∷_}
+use mathlib.Core.List.{List}
 use lib.ListN.{length}
-use Rattle.language.specs.Objects.{Obj, int, symbol, seq, Objs, truthOf, isT, isF, neither}
-use Rattle.language.specs.Forms.{Form, Forms}
-use Rattle.language.specs.Evaluation.{Out, value, bottom, spent, bind, close, decide, noStep, noName, noCell}
+use Rattle.language.specs.Objects.{Obj, truthOf, isT, isF, neither}
+use Rattle.language.specs.Evaluation.{Out, value, bottom, bind, close, decide}
 use Rattle.language.specs.Charging.{stepCharge, cellsCharge, nameCharge}
 use Rattle.language.specs.declared.Meter.{Meter}
 use Rattle.language.specs.declared.Charge.{Charge}
-use Rattle.language.specs.declared.Charge.the-variants.{Granted, Spent}
+use Rattle.language.specs.declared.Charge.the-variants.{Granted}
 use Rattle.language.specs.declared.Val.{Val}
 use Rattle.language.proofs.Charging.{Left, step-granted, cells-granted, name-granted}
-use Rattle.cells.specs.Cells.{Rep, rep-pos, rep-neg, rep-symbol, rep-nil, rep-more, Same, Room, free}
+use Rattle.cells.specs.Cells.{Rep, Same, Room, free}
 use Rattle.cells.proofs.Reps.{same-refl, same-trans, rep-ext}
 use Rattle.primitives.specs.declared.Ended.{Ended}
 use Rattle.primitives.specs.declared.Ended.the-variants.{Done, Stop}
-use Rattle.primitives.specs.Ends.{Made, Agree, Gives, gives-value, gives-bottom, gives-spent}
+use Rattle.primitives.specs.Ends.{Agree, Gives, Sinks}
 use Rattle.evaluator.specs.Ring.{Kept, Finished, Stopped, fell, ran-out, Ends, ends-done, ends-stop}
-use Rattle.evaluator.specs.Applying.{Setting, by, Given, Applied, Falls, Sinks, Judged}
+use Rattle.evaluator.specs.Applying.{Setting, by, Given, Applied, Falls}
 
 -- what a part of a run leaves of what stood before
 pub record Since (C W : List ℕ) (top : ℕ) (m : Meter) (C₁ W₁ : List ℕ) (m₁ : Meter) : Type 0 where
@@ -27,7 +26,6 @@ pub record Since (C W : List ℕ) (top : ℕ) (m : Meter) (C₁ W₁ : List ℕ)
   pub fewer : m₁ .cells ≤ m .cells
   pub long : length C₁ ≡ length C
   pub kept : Kept W W₁ top (m .cells) (m₁ .cells)
-  pub names : m₁ .names ≡ m .names
 
 pub free-up : (C C₁ : List ℕ) (m m₁ : Meter) → m₁ .cells ≤ m .cells → length C₁ ≡ length C → free C m ≤ free C₁ m₁
 free-up C C₁ m m₁ l e = omega arith
@@ -36,7 +34,7 @@ pub kept-refl : (W : List ℕ) (top a b : ℕ) → Kept W W top a b
 kept-refl W top a b = record { keep = λ d h l. refl }
 
 pub since-refl : (C W : List ℕ) (top : ℕ) (m : Meter) → Since C W top m C W m
-since-refl C W top m = record { same = same-refl C (free C m); fewer = omega arith; long = refl; kept = kept-refl W top (m .cells) (m .cells); names = refl }
+since-refl C W top m = record { same = same-refl C (free C m); fewer = omega arith; long = refl; kept = kept-refl W top (m .cells) (m .cells) }
 
 pub since-trans : {C W C₁ W₁ C₂ W₂ : List ℕ} {top : ℕ} {m m₁ m₂ : Meter} → Since C W top m C₁ W₁ m₁ → Since C₁ W₁ top m₁ C₂ W₂ m₂ → Since C W top m C₂ W₂ m₂
 since-trans {C} {W} {C₁} {W₁} {C₂} {W₂} {top} {m} {m₁} {m₂} a b = record {
@@ -44,15 +42,14 @@ since-trans {C} {W} {C₁} {W₁} {C₂} {W₂} {top} {m} {m₁} {m₂} a b = re
   fewer = omega (arith, a .fewer, b .fewer);
   long = b .long ∙ a .long;
   kept = record { keep = λ d h l. b .kept .keep d h (omega (arith, a .fewer, b .fewer)) ∙ a .kept .keep d h (omega (arith, a .fewer, b .fewer)) };
-  names = b .names ∙ a .names;
 }
 
 pub since : {C W C₁ W₁ : List ℕ} {top : ℕ} {v : Val} {m m₁ : Meter} {e : Out Obj} → Finished C W top m e v m₁ C₁ W₁ → Since C W top m C₁ W₁ m₁
-since f = record { same = f .made .same; fewer = f .made .fewer; long = f .made .long; kept = f .kept; names = f .names }
+since f = record { same = f .made .same; fewer = f .made .fewer; long = f .made .long; kept = f .kept }
 
 -- a step moves no cell and no waiting value
 pub since-step : (C W : List ℕ) (top : ℕ) {m k : Meter} → Left m k 1 0 0 → Since C W top m C W k
-since-step C W top {m} {k} c = record { same = same-refl C (free C m); fewer = omega (arith, c .cells); long = refl; kept = kept-refl W top (m .cells) (k .cells); names = omega (arith, c .names) }
+since-step C W top {m} {k} c = record { same = same-refl C (free C m); fewer = omega (arith, c .cells); long = refl; kept = kept-refl W top (m .cells) (k .cells) }
 
 -- ---- outcomes
 pub gave : {C W C₁ W₁ : List ℕ} {top : ℕ} {v : Val} {m m₁ : Meter} {e : Out Obj} → Ends C W top m e C₁ W₁ (Done v m₁) → Finished C W top m e v m₁ C₁ W₁
@@ -65,7 +62,7 @@ pub ends-since : {C W C₁ W₁ C₂ W₂ : List ℕ} {top : ℕ} {m m₁ : Mete
 ends-since s (ends-stop g) = ends-stop g
 ends-since s (ends-done g) =
     let t = since-trans s (since g) in
-    ends-done (record { obj = g .obj; is = g .is; made = record { rep = g .made .rep; same = t .same; room = g .made .room; fewer = t .fewer; long = t .long }; ring = g .ring; kept = t .kept; names = t .names })
+    ends-done (record { obj = g .obj; is = g .is; made = record { rep = g .made .rep; same = t .same; room = g .made .room; fewer = t .fewer; long = t .long }; ring = g .ring; kept = t .kept })
 
 pub ends-eq : {C W C₁ W₁ : List ℕ} {top : ℕ} {m : Meter} {e e′ : Out Obj} {r : Ended} → e′ ≡ e → Ends C W top m e C₁ W₁ r → Ends C W top m e′ C₁ W₁ r
 ends-eq {C} {W} {C₁} {W₁} {top} {m} {r = r} q g = subst (λ u. Ends C W top m u C₁ W₁ r) (sym q) g
@@ -120,12 +117,12 @@ few-cells r = (omega (arith, r .fits, r .small), omega (arith, r .fits, r .small
 pub applied-as : {F C W C₁ W₁ : List ℕ} {top i : ℕ} {v : Val} {m : Meter} {r r′ : Ended} → r ≡ r′ → Applied F C W top i v m r C₁ W₁ → Applied F C W top i v m r′ C₁ W₁
 applied-as {F} {C} {W} {C₁} {W₁} {top} {i} {v} {m} e a = subst (λ r. Applied F C W top i v m r C₁ W₁) e a
 
-pub sinks-after : (r : Ended) (m n : Meter) → Falls r n → n .steps < m .steps → Sinks r m
-sinks-after (Done v k) m n f l = omega arith
+pub sinks-after : (r : Ended) (m n : Meter) → Falls r n → (n .steps < m .steps) × (n .names ≡ m .names) → Sinks r m
+sinks-after (Done v k) m n f l = (omega (arith, f .0, l .0), f .1 ∙ l .1)
 sinks-after (Stop v k) m n f l = tt
 
-pub sinks-le : (r : Ended) (m n : Meter) → Sinks r n → n .steps ≤ m .steps → Sinks r m
-sinks-le (Done v k) m n f l = omega arith
+pub sinks-le : (r : Ended) (m n : Meter) → Sinks r n → (n .steps ≤ m .steps) × (n .names ≡ m .names) → Sinks r m
+sinks-le (Done v k) m n f l = (omega (arith, f .0, l .0), f .1 ∙ l .1)
 sinks-le (Stop v k) m n f l = tt
 
 -- ---- questions
@@ -139,18 +136,18 @@ module _ (b : Obj) (m : Meter) (onT onF : Meter → Out Obj) where
   pub decide-none : truthOf b ≡ neither → decide b m onT onF ≡ bottom m
   decide-none e = ap (λ t. elim t [ isT ↦ onT m | isF ↦ onF m | neither ↦ bottom m ]) e
 
--- ---- the measure falls: four times the steps, and 0 to 3 by how far a function is from `step`
-pub below-step : (m k : Meter) (t : ℕ) {ch : Charge} → ch ≡ stepCharge m → ch ≡ Granted k → 4 * m .steps ≡ t → 4 * k .steps + 3 < t
+-- ---- the measure falls: five times the steps, and 0 to 4 by how far a function is from `step`
+pub below-step : (m k : Meter) (t : ℕ) {ch : Charge} → ch ≡ stepCharge m → ch ≡ Granted k → 5 * m .steps ≡ t → 5 * k .steps + 4 < t
 below-step m k t a b e = omega (arith, step-granted m (sym a ∙ b) .steps)
 
-pub below-open : (m k : Meter) (t : ℕ) {ch : Charge} → ch ≡ nameCharge m → ch ≡ Granted k → 4 * m .steps + 3 ≡ t → 4 * k .steps + 1 < t
+pub below-open : (m k : Meter) (t : ℕ) {ch : Charge} → ch ≡ nameCharge m → ch ≡ Granted k → 5 * m .steps + 4 ≡ t → 5 * k .steps + 1 < t
 below-open m k t a b e = omega (arith, name-granted m (sym a ∙ b) .steps)
 
-pub below-taken : (m k : Meter) (t n r : ℕ) {ch : Charge} → 1 < r → ch ≡ cellsCharge n m → ch ≡ Granted k → 4 * m .steps + r ≡ t → 4 * k .steps + 1 < t
+pub below-taken : (m k : Meter) (t n r : ℕ) {ch : Charge} → 1 < r → ch ≡ cellsCharge n m → ch ≡ Granted k → 5 * m .steps + r ≡ t → 5 * k .steps + 1 < t
 below-taken m k t n r z a b e = omega (arith, cells-granted n m (sym a ∙ b) .steps)
 
 pub fell-by : {F C W C₁ W₁ : List ℕ} {top i : ℕ} {v y : Val} {m k : Meter} {r : Ended} → Applied F C W top i v m r C₁ W₁ → r ≡ Done y k → k .steps < m .steps
-fell-by a e = applied-as e a .falls
+fell-by a e = applied-as e a .falls .0
 
-pub below-applied : {F C W C₁ W₁ : List ℕ} {top i : ℕ} {v y : Val} {m k : Meter} {r : Ended} (t : ℕ) → Applied F C W top i v m r C₁ W₁ → r ≡ Done y k → 4 * m .steps + 3 ≡ t → 4 * k .steps + 1 < t
+pub below-applied : {F C W C₁ W₁ : List ℕ} {top i : ℕ} {v y : Val} {m k : Meter} {r : Ended} (t : ℕ) → Applied F C W top i v m r C₁ W₁ → r ≡ Done y k → 5 * m .steps + 4 ≡ t → 5 * k .steps + 1 < t
 below-applied t a e q = omega (arith, fell-by a e)

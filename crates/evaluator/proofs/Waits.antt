@@ -1,12 +1,9 @@
 -- The ring of waiting values: what a value put there leaves of the others, and values that wait while the next are made.
-use Prim.Native.Nat.{ℕ, zero, suc, _+_, _-_, _*_, _/_, _≤_, _<_, _%_}
+use Prim.Native.Nat.{ℕ, suc, _+_, _-_, _≤_, _<_, _%_}
 use native.Mathlib.Omega.{arith}
 use mathlib.Core.Path.{_≡_, refl, sym, ap, subst, _∙_}
-use mathlib.Core.Bool.{Bool, true, false}
 use mathlib.Core.List.{List, [], _∷_}
-use borrow.Author.Tests.{leb-true, leb-false}
 use lib.ListN.{length}
-use lib.Dec.{leb}
 use Rattle.language.specs.Objects.{Obj, seq, Objs, nil, _::_, lengthOf}
 use Rattle.language.specs.Evaluation.{Out, value, bottom, spent, bind, askCells, gathered, noCell}
 use Rattle.language.specs.Charging.{cellsCharge}
@@ -14,47 +11,25 @@ use Rattle.language.specs.declared.Meter.{Meter}
 use Rattle.language.specs.declared.Charge.{Charge}
 use Rattle.language.specs.declared.Charge.the-variants.{Granted, Spent}
 use Rattle.language.specs.declared.Val.{Val}
-use Rattle.language.proofs.Charging.{Left, cells-asked, cells-granted, cells-spent, onCharge}
-use Rattle.tables.specs.Tables.{field}
-use Rattle.tables.proofs.Records.{record-behind}
-use Rattle.cells.specs.Cells.{Rep, Same, Room, free, valAt, cellPut}
+use Rattle.language.proofs.Charging.{cells-asked, cells-granted}
+use Rattle.cells.specs.Cells.{Rep, Same, Room, free, valAt}
 use Rattle.cells.specs.Parts.{heldAt, holdAt, onto, Held, no-held, a-held, Gathered}
-use Rattle.cells.proofs.Reps.{val-same, same-refl, same-trans, same-val, rep-ext, cell-same, cell-val, length-cell, free-is, free-room}
+use Rattle.cells.proofs.Reps.{same-refl, same-trans, rep-ext, free-is, free-room}
+use Rattle.cells.proofs.Ring.{hold-same, hold-other}
 use Rattle.primitives.specs.declared.Ended.{Ended}
 use Rattle.primitives.specs.declared.Ended.the-variants.{Done, Stop}
-use Rattle.primitives.specs.Ends.{Made, Agree, Gives, gives-value, gives-bottom, gives-spent}
+use Rattle.primitives.specs.Ends.{Gives, gives-value, gives-bottom, gives-spent}
 use Rattle.evaluator.specs.Ring.{Kept, Finished, Stopped, fell, ran-out, Ends, ends-done, ends-stop}
-use Rattle.evaluator.specs.Applying.{Given, Sinks, Taken, Collected}
+use Rattle.evaluator.specs.Applying.{Taken, Collected}
 use Rattle.primitives.proofs.Ending.{agree-self}
 use Rattle.evaluator.proofs.Steps.{free-up, kept-refl, ends-eq, gives-eq, stopped-eq, stopped-bind, few-cells}
 
 -- ---- a value in the ring
-val-behind : (W : List ℕ) (p : ℕ) (v : Val) (j : ℕ) → p < j → valAt (cellPut W p v 0) j ≡ valAt W j
-val-behind W p v j h =
-    let a = record-behind W p (v .tag) 0 (v .word % 4294967296) (v .word / 4294967296) in
-    val-same (valAt (cellPut W p v 0) j) (valAt W j) (a (j * 4) (omega arith)) (omega (arith, a (j * 4 + 2) (omega arith), a (j * 4 + 3) (omega arith)))
-
-val-other : (W : List ℕ) (p : ℕ) (v : Val) (j : ℕ) → (j ≡ p → ⊥) → valAt (cellPut W p v 0) j ≡ valAt W j
-val-other W p v j h = go (leb j p) refl
-  where
-    go : (b : Bool) → leb j p ≡ b → valAt (cellPut W p v 0) j ≡ valAt W j
-    go true e = same-val (cell-same W p v 0) j (below (leb-true j p e) h)
-      where
-        below : j ≤ p → (j ≡ p → ⊥) → j < p
-        below l n = omega (arith, n)
-    go false e = val-behind W p v j (leb-false j p e)
-
 pub held-same : (W : List ℕ) (t : ℕ) (v : Val) (i : ℕ) → length W ≡ 16384 → i % 4096 ≡ t % 4096 → heldAt (holdAt W t v) i ≡ v
-held-same W t v i l e = ap (λ (j : ℕ). valAt (cellPut W (t % 4096) v 0) j) e ∙ cell-val W (t % 4096) v 0 (omega arith)
-
-held-other : (W : List ℕ) (t : ℕ) (v : Val) (i : ℕ) → (i % 4096 ≡ t % 4096 → ⊥) → heldAt (holdAt W t v) i ≡ heldAt W i
-held-other W t v i h = val-other W (t % 4096) v (i % 4096) h
-
-pub length-hold : (W : List ℕ) (t : ℕ) (v : Val) → length (holdAt W t v) ≡ length W
-length-hold W t v = length-cell W (t % 4096) v 0
+held-same W t v i l e = ap (λ (j : ℕ). valAt (holdAt W t v) j) e ∙ hold-same W t v l
 
 -- where a value waits
-place : (top q i : ℕ) → i < q → q ≤ 4096 → ((top + q) % 4096 + (4096 - (q - i))) % 4096 ≡ (top + i) % 4096
+place : (top q i : ℕ) → i < q → q ≤ i + 4096 → ((top + q) % 4096 + (4096 - (q - i))) % 4096 ≡ (top + i) % 4096
 place top q i l h = omega arith
 
 place-below : (top q d : ℕ) → 1 ≤ d → d + q ≤ 4096 → ((top + q) % 4096 + (4096 - (d + q))) % 4096 ≡ (top + (4096 - d)) % 4096
@@ -66,22 +41,30 @@ apart top q i l h e = omega arith
 apart-below : (top q d : ℕ) → 1 ≤ d → d + q < 4096 → ((top + (4096 - d)) % 4096 ≡ (top + q) % 4096 % 4096) → ⊥
 apart-below top q d l h e = omega arith
 
+-- what is done at the place of q keeps what waits before it, and what waits below top
+module _ {W W₁ : List ℕ} {n n₁ : ℕ} (top q : ℕ) (k : Kept W W₁ ((top + q) % 4096) n n₁) where
+  pub kept-before : (i : ℕ) → i < q → q ≤ i + 4096 → q - i + n ≤ 4096 + n₁ → heldAt W₁ (top + i) ≡ heldAt W (top + i)
+  kept-before i l h z =
+      ap (λ (j : ℕ). valAt W₁ j) (sym (place top q i l h)) ∙ k .keep (q - i) (omega arith) z ∙ ap (λ (j : ℕ). valAt W j) (place top q i l h)
+
+  pub kept-below : (d : ℕ) → 1 ≤ d → d + q ≤ 4096 → d + q + n ≤ 4096 + n₁ → heldAt W₁ (top + (4096 - d)) ≡ heldAt W (top + (4096 - d))
+  kept-below d l h z =
+      ap (λ (j : ℕ). valAt W₁ j) (sym (place-below top q d l h)) ∙ k .keep (d + q) (omega arith) z ∙ ap (λ (j : ℕ). valAt W j) (place-below top q d l h)
+
 -- one waiting value more, at the ring's place of q: those before it are as they were
 held-on : {W W₁ C C₁ : List ℕ} {n n₁ f f₁ top : ℕ} (q : ℕ) (y : Val) {es : List Obj} → length es ≤ q → q + n ≤ 4096 + n₁ → q < 4096 → f ≤ f₁ → Same C C₁ f → Kept W W₁ ((top + q) % 4096) n n₁ → Held W C f top es → Held (holdAt W₁ ((top + q) % 4096) y) C₁ f₁ top es
 held-on q y l h z u s k no-held = no-held
 held-on {W} {W₁} {C} {C₁} {f₁ = f₁} {top} q y l h z u s k (a-held {x = x} {xs = es} p r) =
     let i : ℕ = length es in
-    let q1 = held-other W₁ ((top + q) % 4096) y (top + i) (apart top q i l z) in
-    let q2 = k .keep (q - i) (omega arith) (omega arith) in
-    let q3 : heldAt W₁ (top + i) ≡ heldAt W (top + i) = ap (λ (j : ℕ). valAt W₁ j) (sym (place top q i l (omega arith))) ∙ q2 ∙ ap (λ (j : ℕ). valAt W j) (place top q i l (omega arith)) in
-    a-held {x = x} {xs = es} (subst (λ w. Rep C₁ f₁ w x) (sym (q1 ∙ q3)) (rep-ext s u p)) (held-on q y (omega arith) h z u s k r)
+    let q1 = hold-other W₁ ((top + q) % 4096) y (top + i) (apart top q i l z) in
+    let q2 = kept-before top q k i l (omega arith) (omega arith) in
+    a-held {x = x} {xs = es} (subst (λ w. Rep C₁ f₁ w x) (sym (q1 ∙ q2)) (rep-ext s u p)) (held-on q y (omega arith) h z u s k r)
 
 kept-on : {W₀ W W₁ : List ℕ} {a n n₁ top : ℕ} (q : ℕ) (y : Val) → n ≤ a → n₁ ≤ n → Kept W₀ W top (a + q) n → Kept W W₁ ((top + q) % 4096) n n₁ → Kept W₀ (holdAt W₁ ((top + q) % 4096) y) top (a + (q + 1)) n₁
 kept-on {W₀} {W} {W₁} {a} {n} {n₁} {top} q y la lb k l = record {
   keep = λ d h z.
-      let q1 = held-other W₁ ((top + q) % 4096) y (top + (4096 - d)) (apart-below top q d h (omega arith)) in
-      let q2 : heldAt W₁ (top + (4096 - d)) ≡ heldAt W (top + (4096 - d)) = ap (λ (j : ℕ). valAt W₁ j) (sym (place-below top q d h (omega arith))) ∙ l .keep (d + q) (omega arith) (omega arith) ∙ ap (λ (j : ℕ). valAt W j) (place-below top q d h (omega arith)) in
-      q1 ∙ q2 ∙ k .keep d h (omega arith);
+      let q1 = hold-other W₁ ((top + q) % 4096) y (top + (4096 - d)) (apart-below top q d h (omega arith)) in
+      q1 ∙ kept-below top q l d h (omega arith) (omega arith) ∙ k .keep d h (omega arith);
 }
 
 -- ---- values that wait: `es` wait, the last first, and `rest` makes what follows
@@ -105,14 +88,13 @@ pub record Waiting (Cs Ws : List ℕ) (top : ℕ) (m : Meter) (all : Out Objs) (
   pub same : Same Cs C (free Cs m)
   pub fewer : n .cells ≤ m .cells
   pub long : length C ≡ length Cs
-  pub names : n .names ≡ m .names
   pub kept : Kept Ws W top (m .cells + q) (n .cells)
   pub held : q ≤ n .cells → Held W C (free C n) top es
   pub size : length es ≡ q
   pub whole : all ≡ bind (rest n) (λ ys m₁. value (onto es ys) m₁)
 
 pub wait-start : (C W : List ℕ) (top : ℕ) (m : Meter) (rest : Meter → Out Objs) → Waiting C W top m (rest m) C W 0 m rest
-wait-start C W top m rest = record { es = []; same = same-refl C (free C m); fewer = omega arith; long = refl; names = refl; kept = kept-refl W top (m .cells + 0) (m .cells); held = λ h. no-held; size = refl; whole = same-out (rest m) }
+wait-start C W top m rest = record { es = []; same = same-refl C (free C m); fewer = omega arith; long = refl; kept = kept-refl W top (m .cells + 0) (m .cells); held = λ h. no-held; size = refl; whole = same-out (rest m) }
 
 pub wait-next : {Cs Ws C W C₁ W₁ : List ℕ} {top : ℕ} {y : Val} {m n n₁ : Meter} {all : Out Objs} (q : ℕ) (one : Meter → Out Obj) (rest : Meter → Out Objs) → n .cells ≤ 4096 → Waiting Cs Ws top m all C W q n (λ k. bind (one k) (λ z k₁. bind (rest k₁) (λ zs k₂. value (z :: zs) k₂))) → Finished C W ((top + q) % 4096) n (one n) y n₁ C₁ W₁ → Waiting Cs Ws top m all C₁ (holdAt W₁ ((top + q) % 4096) y) (q + 1) n₁ rest
 wait-next {Cs} {C = C} {C₁ = C₁} {W₁ = W₁} {top} {y} {m} {n} {n₁} q one rest lim b u =
@@ -122,7 +104,6 @@ wait-next {Cs} {C = C} {C₁ = C₁} {W₁ = W₁} {top} {y} {m} {n} {n₁} q on
       same = same-trans (free-up Cs C m n (b .fewer) (b .long)) (b .same) (u .made .same);
       fewer = omega (arith, u .made .fewer, b .fewer);
       long = u .made .long ∙ b .long;
-      names = u .names ∙ b .names;
       kept = kept-on q y (b .fewer) (u .made .fewer) (b .kept) (u .kept);
       held = λ h. a-held {x = v} {xs = b .es}
           (rw (b .size, held-same W₁ ((top + q) % 4096) y (top + q) (u .ring) (omega arith)) (u .made .rep))
@@ -156,8 +137,8 @@ pub collect-made : {C W C₁ : List ℕ} {top q p : ℕ} {v : Val} {n k : Meter}
 collect-made {C} {C₁ = C₁} {q = q} {p} {v} {n} {k} pe a b g lc =
     let c = cells-granted q n (sym a ∙ b) in
     record {
-      sinks = omega (arith, c .steps);
-      taken = (c .cells, omega (arith, c .names));
+      sinks = (omega (arith, c .steps), omega (arith, c .names));
+      taken = c .cells;
       means = λ es l h r.
           let w = free-is p r pe in
           let f = few-cells r in
@@ -168,20 +149,19 @@ collect-made {C} {C₁ = C₁} {q = q} {p} {v} {n} {k} pe a b g lc =
     }
 
 -- what `collect` does ends it
-collect-ends : {Cs Ws C W C₁ : List ℕ} {top : ℕ} {m : Meter} {e : Out Obj} (n : Meter) (q : ℕ) (r : Ended) → Same Cs C (free Cs m) → n .cells ≤ m .cells → length C ≡ length Cs → n .names ≡ m .names → length W ≡ 16384 → Kept Ws W top (m .cells + q) (n .cells) → Taken r n q → Gives C n C₁ e r → Ends Cs Ws top m e C₁ W r
-collect-ends n q (Stop a k) s l lc nm w kp t (gives-bottom z g) = ends-stop (fell refl z g)
-collect-ends n q (Stop a k) s l lc nm w kp t (gives-spent z g) = ends-stop (ran-out refl z g)
-collect-ends {Cs} {C = C} {m = m} n q (Done v k) s l lc nm w kp t (gives-value {x = x} g) =
+collect-ends : {Cs Ws C W C₁ : List ℕ} {top : ℕ} {m : Meter} {e : Out Obj} (n : Meter) (q : ℕ) (r : Ended) → Same Cs C (free Cs m) → n .cells ≤ m .cells → length C ≡ length Cs → length W ≡ 16384 → Kept Ws W top (m .cells + q) (n .cells) → Taken r n q → Gives C n C₁ e r → Ends Cs Ws top m e C₁ W r
+collect-ends n q (Stop a k) s l lc w kp t (gives-bottom z g) = ends-stop (fell refl z g)
+collect-ends n q (Stop a k) s l lc w kp t (gives-spent z g) = ends-stop (ran-out refl z g)
+collect-ends {Cs} {C = C} {m = m} n q (Done v k) s l lc w kp t (gives-value {x = x} g) =
     ends-done {v = v} {m′ = k} (record {
       obj = x;
       is = refl;
       made = record { rep = g .rep; same = same-trans (free-up Cs C m n l lc) s (g .same); room = g .room; fewer = omega (arith, g .fewer); long = g .long ∙ lc };
       ring = w;
-      kept = record { keep = λ d h z. kp .keep d h (omega (arith, t .0)) };
-      names = t .1 ∙ nm;
+      kept = record { keep = λ d h z. kp .keep d h (omega (arith, t)) };
     })
 
 pub wait-closed : {Cs Ws C W C₁ : List ℕ} {top : ℕ} {m n : Meter} {all : Out Objs} {rest : Meter → Out Objs} {q : ℕ} {r : Ended} → rest n ≡ value nil n → Waiting Cs Ws top m all C W q n rest → Room C n → length W ≡ 16384 → Collected C W top q n r C₁ → Ends Cs Ws top m (bind all gathered) C₁ W r
 wait-closed {n = n} {q = q} {r} e b rm w c =
     ends-eq (ap (λ u. bind u gathered) (b .whole ∙ ap (λ u. bind u (λ ys m₁. value (onto (b .es) ys) m₁)) e))
-    (collect-ends n q r (b .same) (b .fewer) (b .long) (b .names) w (b .kept) (c .taken) (c .means (b .es) (b .size) (b .held) rm))
+    (collect-ends n q r (b .same) (b .fewer) (b .long) w (b .kept) (c .taken) (c .means (b .es) (b .size) (b .held) rm))

@@ -4,7 +4,7 @@ use mathlib.Core.Path.{_≡_}
 use mathlib.Core.List.{List, [], _∷_}
 use mathlib.Core.Option.{Option, some, none}
 use lib.ListN.{length, getD}
-use Rattle.language.specs.Objects.{Obj, seq, Objs, nil, _::_, lengthOf, truthOf, Truth, isT, isF, neither, nthObj}
+use Rattle.language.specs.Objects.{Obj, seq, Objs, nil, _::_, lengthOf, truthOf, isT, isF, nthObj}
 use Rattle.language.specs.Forms.{Form, construct, Forms, Prog, count, mainForm, select, selectRight}
 use Rattle.language.specs.Bytes.{bytes}
 use Rattle.language.specs.Numbers.{one}
@@ -14,10 +14,10 @@ use Rattle.language.specs.Accepted.{IsName}
 use Rattle.language.specs.declared.Meter.{Meter}
 use Rattle.language.specs.declared.Val.{Val}
 use Rattle.cells.specs.Cells.{Rep, Same, Room, free}
-use Rattle.cells.specs.Parts.{heldAt, holdAt, onto, Held}
+use Rattle.cells.specs.Parts.{heldAt, holdAt, onto, Held, Nth}
 use Rattle.primitives.specs.declared.Ended.{Ended}
 use Rattle.primitives.specs.declared.Ended.the-variants.{Done, Stop}
-use Rattle.primitives.specs.Ends.{Gives, Leaf}
+use Rattle.primitives.specs.Ends.{Gives, Leaf, Sinks}
 use Rattle.primitives.specs.Leaves.{Coded}
 use Rattle.tables.specs.Tables.{field}
 use Rattle.evaluator.specs.declared.waiting.Asked.{Asked}
@@ -55,13 +55,10 @@ pub record Given (F : List ℕ) (S : Setting) (k : ℕ) (C W : List ℕ) (m : Me
   pub fuel : m .steps ≤ k
   pub arg : Rep C (free C m) v x
 
+-- the steps fall, and as many names may open as before
 abbrev pub Falls : Ended → Meter → Type 0
-Falls (Done v m′) m = m′ .steps < m .steps
+Falls (Done v m′) m = (m′ .steps < m .steps) × (m′ .names ≡ m .names)
 Falls (Stop n m′) m = Unit {0}
-
-abbrev pub Sinks : Ended → Meter → Type 0
-Sinks (Done v m′) m = m′ .steps ≤ m .steps
-Sinks (Stop n m′) m = Unit {0}
 
 -- what is done at a form with no parts, by its kind: a word, a selector or a constant; any other kind gives bottom
 pub data Alone (F C : List ℕ) (i : ℕ) (v : Val) (m : Meter) : ℕ → Ended → List ℕ → Type 0 where
@@ -100,10 +97,29 @@ pub record Inserted (F C W : List ℕ) (top g : ℕ) (v : Val) (m : Meter) (r : 
 abbrev pub onPairOf : Apply → Form → Obj → Obj → Meter → Out Obj
 onPairOf ap f a b m = askCells 2 m (λ m₁. ap f (pair a b) m₁)
 
--- one pair of an insert: the place q of s and v, and then the form at g
-pub record Folded (F C W : List ℕ) (top g : ℕ) (s : Val) (q : ℕ) (v : Val) (m : Meter) (r : Ended) (C′ W′ : List ℕ) : Type 0 where
+-- a value leaves at least c cells fewer
+abbrev pub Spends : Ended → Meter → ℕ → Type 0
+Spends (Done v m′) m c = m′ .cells + c ≤ m .cells
+Spends (Stop n m′) m c = Unit {0}
+
+-- one pair of an insert: the value that waits at top, if there are cells for it, and v; then the form at g
+pub record Folded (F C W : List ℕ) (top g : ℕ) (v : Val) (m : Meter) (r : Ended) (C′ W′ : List ℕ) : Type 0 where
   pub falls : Falls r m
-  pub means : (S : Setting) (k : ℕ) (f : Form) (xs : Objs) (acc : Obj) → At F S g f → Given F S k C W m s (seq xs) → q < lengthOf xs → Rep C (free C m) v acc → Ends C W top m (onPairOf (by S k) f (nthObj xs q) acc m) C′ W′ r
+  pub means : (S : Setting) (k : ℕ) (f : Form) (x acc : Obj) → At F S g f → Given F S k C W m v acc → (2 ≤ m .cells → Rep C (free C m) (heldAt W top) x) → Ends C W top m (onPairOf (by S k) f x acc m) C′ W′ r × Spends r m 2
+
+-- the first q objects of xs, the last first
+unfoldable pub firsts : Objs → ℕ → List Obj
+firsts xs zero = []
+firsts xs (suc q) = nthObj xs q ∷ firsts xs q
+
+-- The first q objects of xs wait from top on, each as far as c cells are enough to come to it: two for it and for each behind it.
+pub record Queued (W C : List ℕ) (n top q c : ℕ) (xs : Objs) : Type 0 where
+  pub here : (j : ℕ) → j < q → 2 * (q - j) ≤ c → Rep C n (heldAt W (top + j)) (nthObj xs j)
+
+-- the form at g between q objects that wait from top on and v, from the right
+pub record Between (F C W : List ℕ) (top g q : ℕ) (v : Val) (m : Meter) (r : Ended) (C′ W′ : List ℕ) : Type 0 where
+  pub sinks : Sinks r m
+  pub means : (S : Setting) (k : ℕ) (f : Form) (xs : Objs) (acc : Obj) → At F S g f → Given F S k C W m v acc → Queued W C (free C m) top q (m .cells) xs → Ends C W top m (insertOn (by S k) f (seq (onto (firsts xs q) (acc :: nil))) m) C′ W′ r × Spends r m (2 * q)
 
 -- the form at g on the pair of a constant a and v
 pub record Bound (F C W : List ℕ) (top g : ℕ) (a v : Val) (m : Meter) (r : Ended) (C′ W′ : List ℕ) : Type 0 where
@@ -111,7 +127,7 @@ pub record Bound (F C W : List ℕ) (top g : ℕ) (a v : Val) (m : Meter) (r : E
   pub means : (S : Setting) (k : ℕ) (f : Form) (y x : Obj) → At F S g f → Rep (S .cells) (S .few) a y → Given F S k C W m v x → Ends C W top m (onPairOf (by S k) f y x m) C′ W′ r
 
 abbrev pub Lessens : Asked → Meter → Type 0
-Lessens (Says b k) m = k .steps < m .steps
+Lessens (Says b k) m = (k .steps < m .steps) × (k .names ≡ m .names)
 Lessens (AskStop n k) m = Unit {0}
 
 -- what a question says, where e is the outcome of its application
@@ -160,7 +176,7 @@ pub record Slotted (F C W : List ℕ) (t i : ℕ) (v : Val) (m : Meter) (r : End
   pub put : PutAt r mid W′ t
 
 abbrev pub Taken : Ended → Meter → ℕ → Type 0
-Taken (Done v m′) m q = (m′ .cells + q ≡ m .cells) × (m′ .names ≡ m .names)
+Taken (Done v m′) m q = m′ .cells + q ≡ m .cells
 Taken (Stop n m′) m q = Unit {0}
 
 -- the q values that wait from top on, made a sequence with q cells
@@ -169,11 +185,13 @@ pub record Collected (C W : List ℕ) (top q : ℕ) (n : Meter) (r : Ended) (C�
   pub taken : Taken r n q
   pub means : (xs : List Obj) → length xs ≡ q → (q ≤ n .cells → Held W C (free C n) top xs) → Room C n → Gives C n C′ (gathered (onto xs nil) n) r
 
--- whether a value is T (1), F (0) or anything else
-pub record Judged (v : Val) (r : ℕ) : Type 0 where
-  pub is-true : r ≡ 1 → (C : List ℕ) (n : ℕ) (x : Obj) → Rep C n v x → truthOf x ≡ isT
-  pub is-false : r ≡ 0 → (C : List ℕ) (n : ℕ) (x : Obj) → Rep C n v x → truthOf x ≡ isF
-  pub is-none : (r ≡ 1 → ⊥) → (r ≡ 0 → ⊥) → (C : List ℕ) (n : ℕ) (x : Obj) → Rep C n v x → truthOf x ≡ neither
+-- The first k places of v wait from top on, and r is the place behind them. A place gives way to the one 4,096 places behind it;
+-- what waited below top is kept as far as it is apart from them.
+pub record Spread (C W : List ℕ) (top k : ℕ) (v r : Val) (W′ : List ℕ) : Type 0 where
+  pub last : Nth C v k r
+  pub long : length W′ ≡ length W
+  pub held : (n : ℕ) (xs : Objs) → n < 4294967296 → k < lengthOf xs → Rep C n v (seq xs) → length W ≡ 16384 → (j : ℕ) → j < k → k ≤ j + 4096 → Rep C n (heldAt W′ (top + j)) (nthObj xs j)
+  pub others : (d : ℕ) → 1 ≤ d → d + k ≤ 4096 → heldAt W′ (top + (4096 - d)) ≡ heldAt W (top + (4096 - d))
 
 -- T holds the first 8,192 numbers of F, and 0 past its end
 pub record Copied (F T : List ℕ) : Type 0 where

@@ -15,18 +15,17 @@ use Rattle.primitives.specs.declared.Ended.the-variants.{Done, Stop}
 use Rattle.primitives.specs.Ends.{Made, Agree}
 
 -- A waiting value at a distance d below the top is kept, unless with the cells that were made, a less b, it is more than 4,096:
--- then the construction that waits for it can't complete.
+-- then the construction or insert that it waits for can't complete.
 pub record Kept (W W′ : List ℕ) (top a b : ℕ) : Type 0 where
   pub keep : (d : ℕ) → 1 ≤ d → d + a ≤ 4096 + b → heldAt W′ (top + (4096 - d)) ≡ heldAt W (top + (4096 - d))
 
--- a value: the cells and the waiting values that were there are kept, and the names left are as before
+-- a value: the cells and the waiting values that were there are kept
 pub record Finished (C W : List ℕ) (top : ℕ) (m : Meter) (e : Out Obj) (v : Val) (m′ : Meter) (C′ W′ : List ℕ) : Type 0 where
   pub obj : Obj
   pub is : e ≡ value obj m′
   pub made : Made C m obj v m′ C′
   pub ring : length W′ ≡ 16384
   pub kept : Kept W W′ top (m .cells) (m′ .cells)
-  pub names : m′ .names ≡ m .names
 
 -- bottom or a spent budget, with the same steps and cells left
 pub data Stopped {A : Type 0} (e : Out A) (n : ℕ) (m′ : Meter) : Type 0 where

@@ -1,6 +1,6 @@
 // Applications of linked forms: f holds the forms, c the cells, w the ring of values that wait, of which those from top on
 // are free. Each function calls the others with fewer steps left.
-ghost use Rattle.evaluator.specs.Applying.{Applied, Chained, Slotted, Built, Mapped, Folded, Inserted, Questioned, Repeated, Bound, Chosen, Named};
+ghost use Rattle.evaluator.specs.Applying.{Applied, Chained, Slotted, Built, Mapped, Folded, Between, Inserted, Questioned, Repeated, Bound, Chosen, Named};
 use crate::alone::leaf;
 use crate::records::arity;
 use crate::records::branch;
@@ -12,11 +12,12 @@ use crate::records::next;
 use crate::waiting::Asked;
 use crate::waiting::collect;
 use crate::waiting::place;
-use crate::waiting::verdict;
+use crate::waiting::spread;
 use language::Charge;
 use language::Meter;
 use language::Val;
 use primitives::Ended;
+use primitives::truth_of;
 
 // One application of the form at i to v. A value lent as two numbers and a meter lent as three take less of the stack, and so
 // does an answer that is taken apart at once.
@@ -190,32 +191,60 @@ pub fn each(
     collect(c, w, top, many, n)
 }
 
-// The form at g on the pair of the place q of s and v.
+// The form at g on the pair of the value that waits at top and v.
 pub fn fold(
     f: &[u32; 8192],
     c: &mut [u32],
     w: &mut [u32; 16384],
     top: u32,
     g: u32,
-    s: Val,
-    q: u32,
     v: Val,
     m: Meter,
 ) -> Ended
-    ensures { λ r. ⌜ Folded (now (f .entry)) (now (c .entry)) (now (w .entry)) top g s q v m r (now (c .exit)) (now (w .exit)) ⌝ }
+    ensures { λ r. ⌜ Folded (now (f .entry)) (now (c .entry)) (now (w .entry)) top g v m r (now (c .exit)) (now (w .exit)) ⌝ }
 {
     let p = cells::free_cell(c, m);
     match m.charge_cells(2) {
         Charge::Spent(k) => Ended::Stop(24, k),
         Charge::Granted(k) => {
-            let x = cells::nth(c, s, q);
+            let x = cells::held(w, top as usize);
             let y = cells::pair(c, p, x, v);
             apply(f, c, w, top, g, y, k)
         }
     }
 }
 
-// The form at g between the places of v, from the right.
+// The form at g between the `many` values that wait from top on and v, from the right.
+pub fn between(
+    f: &[u32; 8192],
+    c: &mut [u32],
+    w: &mut [u32; 16384],
+    top: u32,
+    g: u32,
+    many: u32,
+    v: Val,
+    m: Meter,
+) -> Ended
+    ensures { λ r. ⌜ Between (now (f .entry)) (now (c .entry)) (now (w .entry)) top g many v m r (now (c .exit)) (now (w .exit)) ⌝ }
+{
+    let mut q = many;
+    let mut y = v;
+    let mut n = m;
+    while 0 < q {
+        q -= 1;
+        let t = place(top, q);
+        match fold(f, c, w, t, g, y, n) {
+            Ended::Done(z, k) => {
+                y = z;
+                n = k;
+            }
+            Ended::Stop(a, k) => return Ended::Stop(a, k),
+        }
+    }
+    Ended::Done(y, n)
+}
+
+// The form at g between the places of v, from the right. All but the last wait.
 pub fn insert(
     f: &[u32; 8192],
     c: &mut [u32],
@@ -234,20 +263,8 @@ pub fn insert(
     if many == 0 {
         return Ended::Stop(21, m);
     }
-    let mut q = many - 1;
-    let mut y = cells::nth(c, v, q);
-    let mut n = m;
-    while 0 < q {
-        q -= 1;
-        match fold(f, c, w, top, g, v, q, y, n) {
-            Ended::Done(z, k) => {
-                y = z;
-                n = k;
-            }
-            Ended::Stop(a, k) => return Ended::Stop(a, k),
-        }
-    }
-    Ended::Done(y, n)
+    let y = spread(c, w, top, many - 1, v);
+    between(f, c, w, top, g, many - 1, y, m)
 }
 
 // The question at h on v, and what its value says.
@@ -265,7 +282,7 @@ pub fn ask(
     match apply(f, c, w, top, h, v, m) {
         Ended::Stop(a, k) => Asked::Stop(a, k),
         Ended::Done(y, k) => {
-            let b = verdict(y);
+            let b = truth_of(y);
             if b == 1 {
                 return Asked::Says(1, k);
             }
@@ -371,7 +388,10 @@ pub fn name(
         Charge::Spent(k) => Ended::Stop(23, k),
         Charge::Granted(k) => match apply(f, c, w, top, d - 1, v, k) {
             Ended::Stop(a, l) => Ended::Stop(a, l),
-            Ended::Done(y, l) => Ended::Done(y, l.close_name()),
+            Ended::Done(y, l) => {
+                let back = l.close_name();
+                Ended::Done(y, back)
+            }
         },
     }
 }

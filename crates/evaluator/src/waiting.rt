@@ -1,7 +1,7 @@
-// Values that wait in the ring, and what a question's value says.
+// Values that wait in the ring, and what a question says.
 ghost use mathlib.Core.Path.{_≡_};
 ghost use Prim.Native.Nat.{_+_, _%_};
-ghost use Rattle.evaluator.specs.Applying.{Collected, Judged};
+ghost use Rattle.evaluator.specs.Applying.{Collected, Spread};
 use language::Charge;
 use language::Meter;
 use language::Val;
@@ -34,15 +34,17 @@ pub fn collect(c: &mut [u32], w: &[u32; 16384], top: u32, many: u32, m: Meter) -
     }
 }
 
-// 1 for T, 0 for F, 2 for anything else. T and F are packed as 20 and 6.
-pub fn verdict(v: Val) -> u32
-    ensures { λ r. ⌜ Judged v r ⌝ }
+// Lets the first `many` places of v wait from top on, and gives the place behind them.
+pub fn spread(c: &[u32], w: &mut [u32; 16384], top: u32, many: u32, v: Val) -> Val
+    ensures { λ r. ⌜ Spread (now (c .entry)) (now (w .entry)) top many v r (now (w .exit)) ⌝ }
 {
-    if v.tag != 2 {
-        return 2;
+    let mut s = v;
+    let mut q: u32 = 0;
+    while q < many {
+        let x = cells::head(c, s);
+        cells::hold(w, top as usize + q as usize, x);
+        s = cells::tail(c, s);
+        q += 1;
     }
-    if v.word == 20 {
-        return 1;
-    }
-    if v.word == 6 { 0 } else { 2 }
+    cells::head(c, s)
 }

@@ -7,7 +7,7 @@ use lib.Dec.{eqb, leb}
 use borrow.Author.Tests.{leb-true, leb-false, eqb-true, eqb-false, le-leb, lt-leb, eq-eqb, ne-eqb}
 use Rattle.language.specs.Evaluation.{Out, spent, close, noStep, noName, noCell, askStep, askCells, askName}
 use Rattle.language.specs.Evaluation.{Spent as Budget}
-use Rattle.language.specs.Charging.{takeStep, takeCells, takeName, stepCharge, cellsCharge, nameCharge, closed, cellsTaken, withNames}
+use Rattle.language.specs.Charging.{takeStep, takeCells, takeName, stepCharge, cellsCharge, nameCharge, nameGiven, cellsTaken, withNames}
 use Rattle.language.specs.declared.Meter.{Meter}
 use Rattle.language.specs.declared.Charge.{Charge}
 use Rattle.language.specs.declared.Charge.the-variants.{Granted, Spent}
@@ -45,9 +45,8 @@ name-asked m k = go (m .names) refl
     go (suc s) e = rw e
 
 -- Where as many names are open as after the name was taken, giving one back is the close.
-pub closed-is : (d : ℕ) (m : Meter) → m .names + 1 ≡ d → d < 4294967296 → closed m ≡ withNames d m
-unfolding closed
-closed-is d m e h = rw (lt-leb 4294967295 (m .names) (omega arith), e)
+pub name-given : (d : ℕ) (m : Meter) → m .names + 1 ≡ d → nameGiven m ≡ withNames d m
+name-given d m e = rw e
 
 -- What is left of m, where k is left, s steps, d names and c cells were taken.
 pub record Left (m k : Meter) (s d c : ℕ) : Type 0 where
@@ -114,20 +113,20 @@ pos-of n h = omega (arith, h)
 pub step-refused : (m : Meter) → m .steps ≡ 0 → Spent m ≡ stepCharge m
 step-refused m h = rw (step-tested m, eq-eqb (m .steps) 0 h)
 
-pub step-given : (m : Meter) → 1 ≤ m .steps → Granted (stepTaken m) ≡ stepCharge m
-step-given m h = rw (step-tested m, ne-eqb (m .steps) 0 (λ e. omega arith))
+pub step-taken : (m : Meter) → 1 ≤ m .steps → Granted (stepTaken m) ≡ stepCharge m
+step-taken m h = rw (step-tested m, ne-eqb (m .steps) 0 (λ e. omega arith))
 
 pub cells-refused : (n : ℕ) (m : Meter) → m .cells < n → Spent m ≡ cellsCharge n m
 cells-refused n m h = rw (cells-tested n m, lt-leb n (m .cells) h)
 
-pub cells-given : (n : ℕ) (m : Meter) → n ≤ m .cells → Granted (cellsTaken n m) ≡ cellsCharge n m
-cells-given n m h = rw (cells-tested n m, le-leb n (m .cells) h)
+pub cells-taken : (n : ℕ) (m : Meter) → n ≤ m .cells → Granted (cellsTaken n m) ≡ cellsCharge n m
+cells-taken n m h = rw (cells-tested n m, le-leb n (m .cells) h)
 
 pub name-refused : (m : Meter) → m .names ≡ 0 → Spent m ≡ nameCharge m
 name-refused m h = rw (name-tested m, eq-eqb (m .names) 0 h)
 
-pub name-given : (m : Meter) → 1 ≤ m .names → Granted (nameTaken m) ≡ nameCharge m
-name-given m h = rw (name-tested m, ne-eqb (m .names) 0 (λ e. omega arith))
+pub name-taken : (m : Meter) → 1 ≤ m .names → Granted (nameTaken m) ≡ nameCharge m
+name-taken m h = rw (name-tested m, ne-eqb (m .names) 0 (λ e. omega arith))
 
 pub step-granted : (m : Meter) {k : Meter} → stepCharge m ≡ Granted k → Left m k 1 0 0
 step-granted m e =

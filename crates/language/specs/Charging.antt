@@ -1,6 +1,6 @@
 -- What a meter grants: a step, cells, an open name. The evaluation and the meter's methods both say it by these three.
 use Prim.Native.Nat.{ℕ, zero, suc, _+_, _-_}
-use mathlib.Core.Bool.{true, false, cond}
+use mathlib.Core.Bool.{true, false}
 use lib.Dec.{leb}
 use Rattle.language.specs.declared.Meter.{Meter}
 use Rattle.language.specs.declared.Charge.{Charge}
@@ -34,6 +34,6 @@ cellsCharge n m = takeCells n m Spent Granted
 unfoldable pub nameCharge : Meter → Charge
 nameCharge m = takeName m Spent Granted
 
--- One more name may open again. The largest u32 stays as it is: no budget is so large that a name is closed at it.
-unfoldable pub closed : Meter → Meter
-closed m = cond (leb 4294967295 (m .names)) m (record { steps = m .steps; names = m .names + 1; cells = m .cells })
+-- One more name may open again.
+abbrev pub nameGiven : Meter → Meter
+nameGiven m = withNames (m .names + 1) m

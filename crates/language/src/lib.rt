@@ -1,6 +1,7 @@
 // The records that definitions and code share. Their fields are read by the definitions in specs/.
+ghost use Prim.Native.Nat.{_<_};
 ghost use mathlib.Core.Path.{_≡_};
-ghost use Rattle.language.specs.Charging.{stepCharge, cellsCharge, nameCharge, closed};
+ghost use Rattle.language.specs.Charging.{stepCharge, cellsCharge, nameCharge, nameGiven};
 
 // What is left of each budget of a run.
 pub struct Meter {
@@ -52,14 +53,12 @@ impl Meter {
         Charge::Granted(self)
     }
 
-    // One more name may open again. The largest number of names stays.
+    // One more name may open again.
     pub fn close_name(mut self) -> Meter
-        ensures { λ r. ⌜ r ≡ closed self ⌝ }
+        requires { ⌜ self .names < 4294967295 ⌝ }
+        ensures { λ r. ⌜ r ≡ nameGiven self ⌝ }
     {
         let names = self.names;
-        if 4294967295 <= names {
-            return self;
-        }
         self.names = names + 1;
         self
     }

@@ -2,10 +2,11 @@
 use Prim.Native.Nat.{_+_, _*_, _-_, _≤_}
 use mathlib.Core.Path.{_∙_}
 use Rattle.evaluator.proofs.Steps.{below-step, applied-as, below-open, below-taken, below-applied, fell-by}
-use Rattle.evaluator.proofs.Chains.{Chaining, chain-start, chain-next, chain-stop, chain-end, ask-stop, ask-yes, ask-no, ask-none, below-says, cond-stop, cond-done, name-none, name-full, name-stop, name-done}
+use Rattle.evaluator.proofs.Chains.{Chaining, chain-start, chain-next, chain-stop, chain-end, ask-stop, ask-yes, ask-no, ask-none, below-says, cond-stop, cond-done, name-none, name-full, name-stop, may-close, name-done}
 use Rattle.evaluator.proofs.Builds.{slot-done, slot-stop, slot-fell, Building, build-start, build-turn, build-halt, build-done, Mapping, map-atom, map-start, map-turn, map-halt, map-done}
 use Rattle.evaluator.proofs.Repeats.{Repeating, repeat-start, repeat-stop, repeat-done, repeat-stop-2, repeat-less, repeat-next, below-turn}
-use Rattle.evaluator.proofs.Pairs.{bu-full, bu-done, fold-full, fold-done, fold-fell, Inserting, insert-atom, insert-none, insert-start, insert-turn, insert-halt, insert-end}
+use Rattle.evaluator.proofs.Pairs.{bu-full, bu-done, fold-full, fold-done, fold-fell}
+use Rattle.evaluator.proofs.Inserts.{Inserting, between-start, between-turn, between-halt, between-end, insert-atom, insert-none, insert-done}
 use Rattle.evaluator.proofs.Applies.{applied, apply-spent, apply-leaf, on-word, on-name, on-chain, on-construct, on-insert, on-all, on-condition, on-while, on-bu}
 use borrow.Author.Needs.{needs}
 use native.Mathlib.Omega.{arith}
@@ -14,47 +15,50 @@ use borrow.Fn.Kinds.{In}
 use borrow.Fn.PlainCycle.{Measures, is, falls, and}
 use Rattle.evaluator.proofs.cycle.apply.Reads as apply
 use Rattle.evaluator.proofs.cycle.apply.Kinds as apply-kinds
-use Rattle.evaluator.proofs.cycle.+apply+ask+bu+chain+condition+construct+each+fold+insert+name+repeat+slot+step.Lts-apply as apply-lts
+use Rattle.evaluator.proofs.cycle.+apply+ask+between+bu+chain+condition+construct+each+fold+insert+name+repeat+slot+step.Lts-apply as apply-lts
 use Rattle.evaluator.proofs.cycle.ask.Reads as ask
 use Rattle.evaluator.proofs.cycle.ask.Kinds as ask-kinds
-use Rattle.evaluator.proofs.cycle.+apply+ask+bu+chain+condition+construct+each+fold+insert+name+repeat+slot+step.Lts-ask as ask-lts
+use Rattle.evaluator.proofs.cycle.+apply+ask+between+bu+chain+condition+construct+each+fold+insert+name+repeat+slot+step.Lts-ask as ask-lts
+use Rattle.evaluator.proofs.cycle.between.Reads as between
+use Rattle.evaluator.proofs.cycle.between.Kinds as between-kinds
+use Rattle.evaluator.proofs.cycle.+apply+ask+between+bu+chain+condition+construct+each+fold+insert+name+repeat+slot+step.Lts-between as between-lts
 use Rattle.evaluator.proofs.cycle.bu.Reads as bu
 use Rattle.evaluator.proofs.cycle.bu.Kinds as bu-kinds
-use Rattle.evaluator.proofs.cycle.+apply+ask+bu+chain+condition+construct+each+fold+insert+name+repeat+slot+step.Lts-bu as bu-lts
+use Rattle.evaluator.proofs.cycle.+apply+ask+between+bu+chain+condition+construct+each+fold+insert+name+repeat+slot+step.Lts-bu as bu-lts
 use Rattle.evaluator.proofs.cycle.chain.Reads as chain
 use Rattle.evaluator.proofs.cycle.chain.Kinds as chain-kinds
-use Rattle.evaluator.proofs.cycle.+apply+ask+bu+chain+condition+construct+each+fold+insert+name+repeat+slot+step.Lts-chain as chain-lts
+use Rattle.evaluator.proofs.cycle.+apply+ask+between+bu+chain+condition+construct+each+fold+insert+name+repeat+slot+step.Lts-chain as chain-lts
 use Rattle.evaluator.proofs.cycle.condition.Reads as condition
 use Rattle.evaluator.proofs.cycle.condition.Kinds as condition-kinds
-use Rattle.evaluator.proofs.cycle.+apply+ask+bu+chain+condition+construct+each+fold+insert+name+repeat+slot+step.Lts-condition as condition-lts
+use Rattle.evaluator.proofs.cycle.+apply+ask+between+bu+chain+condition+construct+each+fold+insert+name+repeat+slot+step.Lts-condition as condition-lts
 use Rattle.evaluator.proofs.cycle.construct.Reads as construct
 use Rattle.evaluator.proofs.cycle.construct.Kinds as construct-kinds
-use Rattle.evaluator.proofs.cycle.+apply+ask+bu+chain+condition+construct+each+fold+insert+name+repeat+slot+step.Lts-construct as construct-lts
+use Rattle.evaluator.proofs.cycle.+apply+ask+between+bu+chain+condition+construct+each+fold+insert+name+repeat+slot+step.Lts-construct as construct-lts
 use Rattle.evaluator.proofs.cycle.each.Reads as each
 use Rattle.evaluator.proofs.cycle.each.Kinds as each-kinds
-use Rattle.evaluator.proofs.cycle.+apply+ask+bu+chain+condition+construct+each+fold+insert+name+repeat+slot+step.Lts-each as each-lts
+use Rattle.evaluator.proofs.cycle.+apply+ask+between+bu+chain+condition+construct+each+fold+insert+name+repeat+slot+step.Lts-each as each-lts
 use Rattle.evaluator.proofs.cycle.fold.Reads as fold
 use Rattle.evaluator.proofs.cycle.fold.Kinds as fold-kinds
-use Rattle.evaluator.proofs.cycle.+apply+ask+bu+chain+condition+construct+each+fold+insert+name+repeat+slot+step.Lts-fold as fold-lts
+use Rattle.evaluator.proofs.cycle.+apply+ask+between+bu+chain+condition+construct+each+fold+insert+name+repeat+slot+step.Lts-fold as fold-lts
 use Rattle.evaluator.proofs.cycle.insert.Reads as insert
 use Rattle.evaluator.proofs.cycle.insert.Kinds as insert-kinds
-use Rattle.evaluator.proofs.cycle.+apply+ask+bu+chain+condition+construct+each+fold+insert+name+repeat+slot+step.Lts-insert as insert-lts
+use Rattle.evaluator.proofs.cycle.+apply+ask+between+bu+chain+condition+construct+each+fold+insert+name+repeat+slot+step.Lts-insert as insert-lts
 use Rattle.evaluator.proofs.cycle.name.Reads as name
 use Rattle.evaluator.proofs.cycle.name.Kinds as name-kinds
-use Rattle.evaluator.proofs.cycle.+apply+ask+bu+chain+condition+construct+each+fold+insert+name+repeat+slot+step.Lts-name as name-lts
+use Rattle.evaluator.proofs.cycle.+apply+ask+between+bu+chain+condition+construct+each+fold+insert+name+repeat+slot+step.Lts-name as name-lts
 use Rattle.evaluator.proofs.cycle.repeat.Reads as repeat
 use Rattle.evaluator.proofs.cycle.repeat.Kinds as repeat-kinds
-use Rattle.evaluator.proofs.cycle.+apply+ask+bu+chain+condition+construct+each+fold+insert+name+repeat+slot+step.Lts-repeat as repeat-lts
+use Rattle.evaluator.proofs.cycle.+apply+ask+between+bu+chain+condition+construct+each+fold+insert+name+repeat+slot+step.Lts-repeat as repeat-lts
 use Rattle.evaluator.proofs.cycle.slot.Reads as slot
 use Rattle.evaluator.proofs.cycle.slot.Kinds as slot-kinds
-use Rattle.evaluator.proofs.cycle.+apply+ask+bu+chain+condition+construct+each+fold+insert+name+repeat+slot+step.Lts-slot as slot-lts
+use Rattle.evaluator.proofs.cycle.+apply+ask+between+bu+chain+condition+construct+each+fold+insert+name+repeat+slot+step.Lts-slot as slot-lts
 use Rattle.evaluator.proofs.cycle.step.Reads as step
 use Rattle.evaluator.proofs.cycle.step.Kinds as step-kinds
-use Rattle.evaluator.proofs.cycle.+apply+ask+bu+chain+condition+construct+each+fold+insert+name+repeat+slot+step.Lts-step as step-lts
+use Rattle.evaluator.proofs.cycle.+apply+ask+between+bu+chain+condition+construct+each+fold+insert+name+repeat+slot+step.Lts-step as step-lts
 use Rattle.cells.proofs.free_cell.Reads as free-cell-reads
 use Rattle.cells.proofs.head.Reads as head-reads
+use Rattle.cells.proofs.held.Reads as held-reads
 use Rattle.cells.proofs.hold.Reads as hold-reads
-use Rattle.cells.proofs.nth.Reads as nth-reads
 use Rattle.cells.proofs.pair.Reads as pair-reads
 use Rattle.cells.proofs.size.Reads as size-reads
 use Rattle.cells.proofs.tail.Reads as tail-reads
@@ -68,56 +72,60 @@ use Rattle.evaluator.proofs.records.low.Reads as low-reads
 use Rattle.evaluator.proofs.records.next.Reads as next-reads
 use Rattle.evaluator.proofs.waiting.collect.Reads as collect-reads
 use Rattle.evaluator.proofs.waiting.place.Reads as place-reads
-use Rattle.evaluator.proofs.waiting.verdict.Reads as verdict-reads
+use Rattle.evaluator.proofs.waiting.spread.Reads as spread-reads
 use Rattle.language.proofs.Meter.charge_cells.Reads as charge-cells-reads
 use Rattle.language.proofs.Meter.charge_step.Reads as charge-step-reads
 use Rattle.language.proofs.Meter.close_name.Reads as close-name-reads
 use Rattle.language.proofs.Meter.open_name.Reads as open-name-reads
-use Rattle.evaluator.proofs.cycle.+apply+ask+bu+chain+condition+construct+each+fold+insert+name+repeat+slot+step.{
+use Rattle.primitives.proofs.truth_of.Reads as truth-of-reads
+use Rattle.evaluator.proofs.cycle.+apply+ask+between+bu+chain+condition+construct+each+fold+insert+name+repeat+slot+step.{
   statement,
 }
-use Rattle.evaluator.proofs.cycle.+apply+ask+bu+chain+condition+construct+each+fold+insert+name+repeat+slot+step.Tie.{
+use Rattle.evaluator.proofs.cycle.+apply+ask+between+bu+chain+condition+construct+each+fold+insert+name+repeat+slot+step.Tie.{
   close,
 }
 
 abbrev μ-apply : Measures 3 apply-kinds.ps ℕ
-μ-apply κs a = 4 * a .1 .1 .1 .1 .1 .1 .0 .steps + 1
+μ-apply κs a = 5 * a .1 .1 .1 .1 .1 .1 .0 .steps + 1
 
 abbrev μ-ask : Measures 3 ask-kinds.ps ℕ
-μ-ask κs a = 4 * a .1 .1 .1 .1 .1 .1 .0 .steps + 2
+μ-ask κs a = 5 * a .1 .1 .1 .1 .1 .1 .0 .steps + 2
+
+abbrev μ-between : Measures 3 between-kinds.ps ℕ
+μ-between κs a = 5 * a .1 .1 .1 .1 .1 .1 .1 .0 .steps + 3
 
 abbrev μ-bu : Measures 3 bu-kinds.ps ℕ
-μ-bu κs a = 4 * a .1 .1 .1 .1 .1 .1 .1 .0 .steps + 3
+μ-bu κs a = 5 * a .1 .1 .1 .1 .1 .1 .1 .0 .steps + 4
 
 abbrev μ-chain : Measures 3 chain-kinds.ps ℕ
-μ-chain κs a = 4 * a .1 .1 .1 .1 .1 .1 .0 .steps + 3
+μ-chain κs a = 5 * a .1 .1 .1 .1 .1 .1 .0 .steps + 4
 
 abbrev μ-condition : Measures 3 condition-kinds.ps ℕ
-μ-condition κs a = 4 * a .1 .1 .1 .1 .1 .1 .0 .steps + 3
+μ-condition κs a = 5 * a .1 .1 .1 .1 .1 .1 .0 .steps + 4
 
 abbrev μ-construct : Measures 3 construct-kinds.ps ℕ
-μ-construct κs a = 4 * a .1 .1 .1 .1 .1 .1 .1 .0 .steps + 3
+μ-construct κs a = 5 * a .1 .1 .1 .1 .1 .1 .1 .0 .steps + 4
 
 abbrev μ-each : Measures 3 each-kinds.ps ℕ
-μ-each κs a = 4 * a .1 .1 .1 .1 .1 .1 .0 .steps + 3
+μ-each κs a = 5 * a .1 .1 .1 .1 .1 .1 .0 .steps + 4
 
 abbrev μ-fold : Measures 3 fold-kinds.ps ℕ
-μ-fold κs a = 4 * a .1 .1 .1 .1 .1 .1 .1 .1 .0 .steps + 2
+μ-fold κs a = 5 * a .1 .1 .1 .1 .1 .1 .0 .steps + 2
 
 abbrev μ-insert : Measures 3 insert-kinds.ps ℕ
-μ-insert κs a = 4 * a .1 .1 .1 .1 .1 .1 .0 .steps + 3
+μ-insert κs a = 5 * a .1 .1 .1 .1 .1 .1 .0 .steps + 4
 
 abbrev μ-name : Measures 3 name-kinds.ps ℕ
-μ-name κs a = 4 * a .1 .1 .1 .1 .1 .1 .0 .steps + 3
+μ-name κs a = 5 * a .1 .1 .1 .1 .1 .1 .0 .steps + 4
 
 abbrev μ-repeat : Measures 3 repeat-kinds.ps ℕ
-μ-repeat κs a = 4 * a .1 .1 .1 .1 .1 .1 .0 .steps + 3
+μ-repeat κs a = 5 * a .1 .1 .1 .1 .1 .1 .0 .steps + 4
 
 abbrev μ-slot : Measures 3 slot-kinds.ps ℕ
-μ-slot κs a = 4 * a .1 .1 .1 .1 .1 .1 .0 .steps + 2
+μ-slot κs a = 5 * a .1 .1 .1 .1 .1 .1 .0 .steps + 2
 
 abbrev μ-step : Measures 3 step-kinds.ps ℕ
-μ-step κs a = 4 * a .1 .1 .1 .1 .1 .1 .1 .0
+μ-step κs a = 5 * a .1 .1 .1 .1 .1 .1 .1 .0
 
 abbrev apply-at : ℕ → In 3 apply-kinds.ps
 apply-at t = and 3 apply-kinds.ps (is 3 apply-kinds.ps μ-apply t) apply.Pre
@@ -130,6 +138,12 @@ ask-at t = and 3 ask-kinds.ps (is 3 ask-kinds.ps μ-ask t) ask.Pre
 
 abbrev ask-below : ℕ → In 3 ask-kinds.ps
 ask-below t = and 3 ask-kinds.ps (falls 3 ask-kinds.ps _<_ μ-ask t) ask.Pre
+
+abbrev between-at : ℕ → In 3 between-kinds.ps
+between-at t = and 3 between-kinds.ps (is 3 between-kinds.ps μ-between t) between.Pre
+
+abbrev between-below : ℕ → In 3 between-kinds.ps
+between-below t = and 3 between-kinds.ps (falls 3 between-kinds.ps _<_ μ-between t) between.Pre
 
 abbrev bu-at : ℕ → In 3 bu-kinds.ps
 bu-at t = and 3 bu-kinds.ps (is 3 bu-kinds.ps μ-bu t) bu.Pre
@@ -203,7 +217,10 @@ abbrev apply-calls : ℕ → apply-lts.Claims
 apply-calls t = (step-below t, step.Post)
 
 abbrev ask-calls : ℕ → ask-lts.Claims
-ask-calls t = (apply-below t, apply.Post, verdict-reads.Asked, verdict-reads.Learnt)
+ask-calls t = (apply-below t, apply.Post, truth-of-reads.Asked, truth-of-reads.Learnt)
+
+abbrev between-calls : ℕ → between-lts.Claims
+between-calls t = (place-reads.Asked, place-reads.Learnt, fold-below t, fold.Post)
 
 abbrev bu-calls : ℕ → bu-lts.Claims
 bu-calls t = (free-cell-reads.Asked, free-cell-reads.Learnt, charge-cells-reads.Asked, charge-cells-reads.Learnt, pair-reads.Asked, pair-reads.Learnt, apply-below t, apply.Post)
@@ -221,10 +238,10 @@ abbrev each-calls : ℕ → each-lts.Claims
 each-calls t = (size-reads.Asked, size-reads.Learnt, place-reads.Asked, place-reads.Learnt, head-reads.Asked, head-reads.Learnt, slot-below t, slot.Post, tail-reads.Asked, tail-reads.Learnt, collect-reads.Asked, collect-reads.Learnt)
 
 abbrev fold-calls : ℕ → fold-lts.Claims
-fold-calls t = (free-cell-reads.Asked, free-cell-reads.Learnt, charge-cells-reads.Asked, charge-cells-reads.Learnt, nth-reads.Asked, nth-reads.Learnt, pair-reads.Asked, pair-reads.Learnt, apply-below t, apply.Post)
+fold-calls t = (free-cell-reads.Asked, free-cell-reads.Learnt, charge-cells-reads.Asked, charge-cells-reads.Learnt, held-reads.Asked, held-reads.Learnt, pair-reads.Asked, pair-reads.Learnt, apply-below t, apply.Post)
 
 abbrev insert-calls : ℕ → insert-lts.Claims
-insert-calls t = (size-reads.Asked, size-reads.Learnt, nth-reads.Asked, nth-reads.Learnt, fold-below t, fold.Post)
+insert-calls t = (size-reads.Asked, size-reads.Learnt, spread-reads.Asked, spread-reads.Learnt, between-below t, between.Post)
 
 abbrev name-calls : ℕ → name-lts.Claims
 name-calls t = (open-name-reads.Asked, open-name-reads.Learnt, apply-below t, apply.Post, close-name-reads.Asked, close-name-reads.Learnt)
@@ -278,9 +295,9 @@ ask-enum-known-a t c = search needs
 ask-enum-known-y : (t : ℕ) → ask-lts.Need-enum-known-y (ask-calls t) (ask-at t) ask.Post
 ask-enum-known-y t c = search needs
 
--- let b = verdict(y);
-ask-verdict-requires : (t : ℕ) → ask-lts.Need-verdict-requires (ask-calls t) (ask-at t) ask.Post
-ask-verdict-requires t c κs = search needs
+-- let b = truth_of(y);
+ask-truth-of-requires : (t : ℕ) → ask-lts.Need-truth-of-requires (ask-calls t) (ask-at t) ask.Post
+ask-truth-of-requires t c κs = search needs
 
 -- return Asked::Says(1, k);
 ask-same-length : (t : ℕ) → ask-lts.Need-same-length (ask-calls t) (ask-at t) ask.Post
@@ -313,6 +330,60 @@ ask-same-length-4 t c = search needs
 -- pub fn ask(
 ask-returns-4 : (t : ℕ) → ask-lts.Need-returns-4 (ask-calls t) (ask-at t) ask.Post
 ask-returns-4 t c = search ask-none
+
+abbrev between-Inv-loop : between-lts.InvT-loop
+between-Inv-loop f c₀ w₀ top g many q₀ y₀ n₀ c w q y n = Inserting f c₀ w₀ top g many y₀ n₀ c w q y n
+
+abbrev between-μ-loop : between-lts.MeasureT-loop
+between-μ-loop f c₀ w₀ top g many q₀ y₀ n₀ c w q y n = q
+
+-- while 0 < q {
+between-loop-holds : (t : ℕ) → between-lts.Need-loop-holds (between-calls t) (between-at t) between.Post between-Inv-loop between-μ-loop
+between-loop-holds t c = search between-start
+
+-- q -= 1;
+between-sub-q : (t : ℕ) → between-lts.Need-sub-q (between-calls t) (between-at t) between.Post between-Inv-loop between-μ-loop
+between-sub-q t c = search needs
+
+-- let t = place(top, q);
+between-place-requires : (t : ℕ) → between-lts.Need-place-requires (between-calls t) (between-at t) between.Post between-Inv-loop between-μ-loop
+between-place-requires t c κs = search needs
+
+-- match fold(f, c, w, t, g, y, n) {
+between-fold-requires : (t : ℕ) → between-lts.Need-fold-requires (between-calls t) (between-at t) between.Post between-Inv-loop between-μ-loop
+between-fold-requires t c κs = search needs
+
+-- Ended::Done(z, k) => {
+between-enum-known-z : (t : ℕ) → between-lts.Need-enum-known-z (between-calls t) (between-at t) between.Post between-Inv-loop between-μ-loop
+between-enum-known-z t c = search needs
+
+-- while 0 < q {
+between-loop-less : (t : ℕ) → between-lts.Need-loop-less (between-calls t) (between-at t) between.Post between-Inv-loop between-μ-loop
+between-loop-less t c = search needs
+
+-- while 0 < q {
+between-loop-again : (t : ℕ) → between-lts.Need-loop-again (between-calls t) (between-at t) between.Post between-Inv-loop between-μ-loop
+between-loop-again t c = search between-turn
+
+-- Ended::Stop(a, k) => return Ended::Stop(a, k),
+between-enum-known-a : (t : ℕ) → between-lts.Need-enum-known-a (between-calls t) (between-at t) between.Post between-Inv-loop between-μ-loop
+between-enum-known-a t c = search needs
+
+-- Ended::Stop(a, k) => return Ended::Stop(a, k),
+between-same-length : (t : ℕ) → between-lts.Need-same-length (between-calls t) (between-at t) between.Post between-Inv-loop between-μ-loop
+between-same-length t c = search needs
+
+-- Ended::Stop(a, k) => return Ended::Stop(a, k),
+between-returns : (t : ℕ) → between-lts.Need-returns (between-calls t) (between-at t) between.Post between-Inv-loop between-μ-loop
+between-returns t c = search between-halt
+
+-- pub fn between(
+between-same-length-2 : (t : ℕ) → between-lts.Need-same-length-2 (between-calls t) (between-at t) between.Post between-Inv-loop between-μ-loop
+between-same-length-2 t c = search needs
+
+-- pub fn between(
+between-returns-2 : (t : ℕ) → between-lts.Need-returns-2 (between-calls t) (between-at t) between.Post between-Inv-loop between-μ-loop
+between-returns-2 t c = search between-end
 
 -- let p = cells::free_cell(c, m);
 bu-free-cell-requires : (t : ℕ) → bu-lts.Need-free-cell-requires (bu-calls t) (bu-at t) bu.Post
@@ -592,9 +663,9 @@ fold-enum-known-k t c = search needs
 fold-enum-known-k-2 : (t : ℕ) → fold-lts.Need-enum-known-k-2 (fold-calls t) (fold-at t) fold.Post
 fold-enum-known-k-2 t c = search needs
 
--- let x = cells::nth(c, s, q);
-fold-nth-requires : (t : ℕ) → fold-lts.Need-nth-requires (fold-calls t) (fold-at t) fold.Post
-fold-nth-requires t c κs = search needs
+-- let x = cells::held(w, top as usize);
+fold-held-requires : (t : ℕ) → fold-lts.Need-held-requires (fold-calls t) (fold-at t) fold.Post
+fold-held-requires t c κs = search needs
 
 -- let y = cells::pair(c, p, x, v);
 fold-pair-requires : (t : ℕ) → fold-lts.Need-pair-requires (fold-calls t) (fold-at t) fold.Post
@@ -620,75 +691,41 @@ fold-same-length-2 t c = search needs
 fold-returns-2 : (t : ℕ) → fold-lts.Need-returns-2 (fold-calls t) (fold-at t) fold.Post
 fold-returns-2 t c = search fold-done
 
-abbrev insert-Inv-loop : insert-lts.InvT-loop
-insert-Inv-loop f c₀ w₀ top g v many q₀ y₀ n₀ c w q y n = Inserting f c₀ w₀ top g v n₀ c w q y n
-
-abbrev insert-μ-loop : insert-lts.MeasureT-loop
-insert-μ-loop f c₀ w₀ top g v many q₀ y₀ n₀ c w q y n = q
-
 -- return Ended::Stop(21, m);
-insert-returns : (t : ℕ) → insert-lts.Need-returns (insert-calls t) (insert-at t) insert.Post insert-Inv-loop insert-μ-loop
+insert-returns : (t : ℕ) → insert-lts.Need-returns (insert-calls t) (insert-at t) insert.Post
 insert-returns t c = search insert-atom
 
 -- let many = cells::size(v);
-insert-size-requires : (t : ℕ) → insert-lts.Need-size-requires (insert-calls t) (insert-at t) insert.Post insert-Inv-loop insert-μ-loop
+insert-size-requires : (t : ℕ) → insert-lts.Need-size-requires (insert-calls t) (insert-at t) insert.Post
 insert-size-requires t c κs = search needs
 
 -- return Ended::Stop(21, m);
-insert-returns-2 : (t : ℕ) → insert-lts.Need-returns-2 (insert-calls t) (insert-at t) insert.Post insert-Inv-loop insert-μ-loop
+insert-returns-2 : (t : ℕ) → insert-lts.Need-returns-2 (insert-calls t) (insert-at t) insert.Post
 insert-returns-2 t c = search insert-none
 
--- let mut q = many - 1;
-insert-sub-q : (t : ℕ) → insert-lts.Need-sub-q (insert-calls t) (insert-at t) insert.Post insert-Inv-loop insert-μ-loop
-insert-sub-q t c = search needs
+-- let y = spread(c, w, top, many - 1, v);
+insert-sub-spread : (t : ℕ) → insert-lts.Need-sub-spread (insert-calls t) (insert-at t) insert.Post
+insert-sub-spread t c = search needs
 
--- let mut y = cells::nth(c, v, q);
-insert-nth-requires : (t : ℕ) → insert-lts.Need-nth-requires (insert-calls t) (insert-at t) insert.Post insert-Inv-loop insert-μ-loop
-insert-nth-requires t c κs = search needs
+-- let y = spread(c, w, top, many - 1, v);
+insert-spread-requires : (t : ℕ) → insert-lts.Need-spread-requires (insert-calls t) (insert-at t) insert.Post
+insert-spread-requires t c κs = search needs
 
--- while 0 < q {
-insert-loop-holds : (t : ℕ) → insert-lts.Need-loop-holds (insert-calls t) (insert-at t) insert.Post insert-Inv-loop insert-μ-loop
-insert-loop-holds t c = search insert-start
+-- between(f, c, w, top, g, many - 1, y, m)
+insert-sub-between : (t : ℕ) → insert-lts.Need-sub-between (insert-calls t) (insert-at t) insert.Post
+insert-sub-between t c = search needs
 
--- q -= 1;
-insert-sub-q-2 : (t : ℕ) → insert-lts.Need-sub-q-2 (insert-calls t) (insert-at t) insert.Post insert-Inv-loop insert-μ-loop
-insert-sub-q-2 t c = search needs
+-- between(f, c, w, top, g, many - 1, y, m)
+insert-between-requires : (t : ℕ) → insert-lts.Need-between-requires (insert-calls t) (insert-at t) insert.Post
+insert-between-requires t c κs = search needs
 
--- match fold(f, c, w, top, g, v, q, y, n) {
-insert-fold-requires : (t : ℕ) → insert-lts.Need-fold-requires (insert-calls t) (insert-at t) insert.Post insert-Inv-loop insert-μ-loop
-insert-fold-requires t c κs = search needs
-
--- Ended::Done(z, k) => {
-insert-enum-known-z : (t : ℕ) → insert-lts.Need-enum-known-z (insert-calls t) (insert-at t) insert.Post insert-Inv-loop insert-μ-loop
-insert-enum-known-z t c = search needs
-
--- while 0 < q {
-insert-loop-less : (t : ℕ) → insert-lts.Need-loop-less (insert-calls t) (insert-at t) insert.Post insert-Inv-loop insert-μ-loop
-insert-loop-less t c = search needs
-
--- while 0 < q {
-insert-loop-again : (t : ℕ) → insert-lts.Need-loop-again (insert-calls t) (insert-at t) insert.Post insert-Inv-loop insert-μ-loop
-insert-loop-again t c = search insert-turn
-
--- Ended::Stop(a, k) => return Ended::Stop(a, k),
-insert-enum-known-a : (t : ℕ) → insert-lts.Need-enum-known-a (insert-calls t) (insert-at t) insert.Post insert-Inv-loop insert-μ-loop
-insert-enum-known-a t c = search needs
-
--- Ended::Stop(a, k) => return Ended::Stop(a, k),
-insert-same-length : (t : ℕ) → insert-lts.Need-same-length (insert-calls t) (insert-at t) insert.Post insert-Inv-loop insert-μ-loop
+-- pub fn insert(
+insert-same-length : (t : ℕ) → insert-lts.Need-same-length (insert-calls t) (insert-at t) insert.Post
 insert-same-length t c = search needs
 
--- Ended::Stop(a, k) => return Ended::Stop(a, k),
-insert-returns-3 : (t : ℕ) → insert-lts.Need-returns-3 (insert-calls t) (insert-at t) insert.Post insert-Inv-loop insert-μ-loop
-insert-returns-3 t c = search insert-halt
-
 -- pub fn insert(
-insert-same-length-2 : (t : ℕ) → insert-lts.Need-same-length-2 (insert-calls t) (insert-at t) insert.Post insert-Inv-loop insert-μ-loop
-insert-same-length-2 t c = search needs
-
--- pub fn insert(
-insert-returns-4 : (t : ℕ) → insert-lts.Need-returns-4 (insert-calls t) (insert-at t) insert.Post insert-Inv-loop insert-μ-loop
-insert-returns-4 t c = search insert-end
+insert-returns-3 : (t : ℕ) → insert-lts.Need-returns-3 (insert-calls t) (insert-at t) insert.Post
+insert-returns-3 t c = search insert-done
 
 -- return Ended::Stop(21, m);
 name-returns : (t : ℕ) → name-lts.Need-returns (name-calls t) (name-at t) name.Post
@@ -718,13 +755,13 @@ name-apply-requires t c κs = search (below-open, needs)
 name-enum-known-a : (t : ℕ) → name-lts.Need-enum-known-a (name-calls t) (name-at t) name.Post
 name-enum-known-a t c = search needs
 
--- Ended::Done(y, l) => Ended::Done(y, l.close_name()),
+-- Ended::Done(y, l) => {
 name-enum-known-y : (t : ℕ) → name-lts.Need-enum-known-y (name-calls t) (name-at t) name.Post
 name-enum-known-y t c = search needs
 
--- Ended::Done(y, l) => Ended::Done(y, l.close_name()),
+-- let back = l.close_name();
 name-close-name-requires : (t : ℕ) → name-lts.Need-close-name-requires (name-calls t) (name-at t) name.Post
-name-close-name-requires t c κs = search needs
+name-close-name-requires t c κs = search (may-close, c .before .before .before .before .before .before .before .before .before .before .before .before .before .before .good .1 .1 .1 .1 .1 .1)
 
 -- pub fn name(
 name-returns-2 : (t : ℕ) → name-lts.Need-returns-2 (name-calls t) (name-at t) name.Post
@@ -744,7 +781,7 @@ name-same-length-2 t c = search needs
 
 -- pub fn name(
 name-returns-4 : (t : ℕ) → name-lts.Need-returns-4 (name-calls t) (name-at t) name.Post
-name-returns-4 t c = let g = c .before .before .before .before .before .before .before .before .before .before .before .before .before .before .before .good .1 .1 .1 .1 .1 .1 .0 in let l : c .before .before .before .before .before .before .before .before .before .before .before .before .before .before .before .args .m .names < 4294967296 = omega (arith, g) in search name-done
+name-returns-4 t c = search name-done
 
 abbrev repeat-Inv-loop : repeat-lts.InvT-loop
 repeat-Inv-loop f c₀ w₀ top h g x₀ n₀ c w x n = Repeating f c₀ w₀ top h x₀ n₀ c w x n
@@ -1008,12 +1045,13 @@ step-same-length-10 t c = search needs
 step-returns-11 : (t : ℕ) → step-lts.Need-returns-11 (step-calls t) (step-at t) step.Post
 step-returns-11 t c = search apply-leaf
 
-pub +apply+ask+bu+chain+condition+construct+each+fold+insert+name+repeat+slot+step-spec :
+pub +apply+ask+between+bu+chain+condition+construct+each+fold+insert+name+repeat+slot+step-spec :
     {M : Type 1} → statement M
-+apply+ask+bu+chain+condition+construct+each+fold+insert+name+repeat+slot+step-spec =
++apply+ask+between+bu+chain+condition+construct+each+fold+insert+name+repeat+slot+step-spec =
     close
     μ-apply
     μ-ask
+    μ-between
     μ-bu
     μ-chain
     μ-condition
@@ -1041,7 +1079,7 @@ pub +apply+ask+bu+chain+condition+construct+each+fold+insert+name+repeat+slot+st
     (ask-apply-requires t)
     (ask-enum-known-a t)
     (ask-enum-known-y t)
-    (ask-verdict-requires t)
+    (ask-truth-of-requires t)
     (ask-same-length t)
     (ask-returns t)
     (ask-same-length-2 t)
@@ -1050,6 +1088,23 @@ pub +apply+ask+bu+chain+condition+construct+each+fold+insert+name+repeat+slot+st
     (ask-returns-3 t)
     (ask-same-length-4 t)
     (ask-returns-4 t))
+    (λ t. between-lts.spec (between-calls t)
+    (between-at t)
+    between.Post
+    between-Inv-loop
+    between-μ-loop
+    (between-loop-holds t)
+    (between-sub-q t)
+    (between-place-requires t)
+    (between-fold-requires t)
+    (between-enum-known-z t)
+    (between-loop-less t)
+    (between-loop-again t)
+    (between-enum-known-a t)
+    (between-same-length t)
+    (between-returns t)
+    (between-same-length-2 t)
+    (between-returns-2 t))
     (λ t. bu-lts.spec (bu-calls t)
     (bu-at t)
     bu.Post
@@ -1139,7 +1194,7 @@ pub +apply+ask+bu+chain+condition+construct+each+fold+insert+name+repeat+slot+st
     (fold-charge-cells-requires t)
     (fold-enum-known-k t)
     (fold-enum-known-k-2 t)
-    (fold-nth-requires t)
+    (fold-held-requires t)
     (fold-pair-requires t)
     (fold-apply-requires t)
     (fold-same-length t)
@@ -1149,24 +1204,15 @@ pub +apply+ask+bu+chain+condition+construct+each+fold+insert+name+repeat+slot+st
     (λ t. insert-lts.spec (insert-calls t)
     (insert-at t)
     insert.Post
-    insert-Inv-loop
-    insert-μ-loop
     (insert-returns t)
     (insert-size-requires t)
     (insert-returns-2 t)
-    (insert-sub-q t)
-    (insert-nth-requires t)
-    (insert-loop-holds t)
-    (insert-sub-q-2 t)
-    (insert-fold-requires t)
-    (insert-enum-known-z t)
-    (insert-loop-less t)
-    (insert-loop-again t)
-    (insert-enum-known-a t)
+    (insert-sub-spread t)
+    (insert-spread-requires t)
+    (insert-sub-between t)
+    (insert-between-requires t)
     (insert-same-length t)
-    (insert-returns-3 t)
-    (insert-same-length-2 t)
-    (insert-returns-4 t))
+    (insert-returns-3 t))
     (λ t. name-lts.spec (name-calls t)
     (name-at t)
     name.Post
