@@ -95,8 +95,9 @@ fn reply(input: &[u8], run: &impl Fn(&Call) -> Answer) -> Vec<u8> {
 fn check_inputs(data: &[u8], expected: &[u8], run: impl Fn(&Call) -> Answer) -> (usize, bool) {
     let (mut at, mut all, mut out) = (0, 0, Vec::new());
     while at < data.len() {
-        let (name, input) = (number(data, at) as usize, number(data, at + 4) as usize);
-        at += 8;
+        let length = |at: usize| u16::from_le_bytes([data[at], data[at + 1]]) as usize;
+        let (name, input) = (length(at), length(at + 2));
+        at += 4;
         out.extend(&data[at..at + name]);
         out.push(b'\n');
         out.extend(reply(&data[at + name..at + name + input], &run));

@@ -181,7 +181,7 @@ def main():
         write_folder(words[1])
     elif words == ['cases']:
         for name, given, reply in inputs():
-            out.write(struct.pack('<2I', len(name), len(given)) + name.encode() + given)
+            out.write(struct.pack('<2H', len(name), len(given)) + name.encode() + given)
     elif words == ['replies']:
         for name, given, reply in inputs():
             out.write(name.encode() + b'\n' + reply)

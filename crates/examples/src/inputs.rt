@@ -1,4 +1,4 @@
-// Inputs as tests/fprun_inputs.py writes them: the length of a name and that of the input, 32 bits each with the lowest byte
+// Inputs as tests/fprun_inputs.py writes them: the length of a name and that of the input, 16 bits each with the low byte
 // first, then the name and the input.
 ghost use Prim.Native.Nat.{_≤_};
 use crate::printing;
@@ -9,13 +9,11 @@ fn wide(b: u8) -> usize
     b as usize
 }
 
-// The number in the next four bytes of the file; 2^32 if it has no four any more.
-fn read_number(fd: i32) -> usize {
-    let mut b = [0u8; 4];
-    if io::read_full(fd, &mut b) < 4 {
-        return 4294967296;
-    }
-    wide(b[0]) + 256 * wide(b[1]) + 65536 * wide(b[2]) + 16777216 * wide(b[3])
+// A length, from its low byte and its high byte.
+fn length(low: u8, high: u8) -> usize
+    ensures { λ r. ⌜ r ≤ 65535 ⌝ }
+{
+    wide(low) + 256 * wide(high)
 }
 
 // Prints the next n bytes of the file as a line; false if they are not there.
@@ -43,16 +41,14 @@ fn print_answer(fd: i32, n: usize) -> bool
     true
 }
 
-// Prints the next name and reply; false at the end of the file, and for a text that is cut short or over 65,536 bytes.
+// Prints the next name and reply; false at the end of the file, and for a text that is cut short.
 fn print_next(fd: i32) -> bool {
-    let name = read_number(fd);
-    let input = read_number(fd);
-    if 65536 < name {
+    let mut head = [0u8; 4];
+    if io::read_full(fd, &mut head) < 4 {
         return false;
     }
-    if 65536 < input {
-        return false;
-    }
+    let name = length(head[0], head[1]);
+    let input = length(head[2], head[3]);
     if !print_name(fd, name) {
         return false;
     }
