@@ -1,5 +1,6 @@
 pub mod Reps
 pub mod Places
+pub mod Ring
 pub mod Inversions
 pub mod Encoded
 pub mod Lengths

@@ -3,11 +3,15 @@ use Prim.Native.Nat.{ℕ, suc, _+_, _-_, _*_, _/_, _%_, _≤_, _<_}
 use mathlib.Core.Path.{_≡_, refl, ap₂, _∙_}
 use mathlib.Core.List.{List}
 use native.Mathlib.Omega.{arith}
-use lib.ListN.{length}
+use native.Mathlib.Nat.{add-zero}
+use mathlib.Core.Bool.{Bool, true, false}
+use lib.Dec.{ltb}
+use borrow.Author.Tests.{ltb-true, ltb-false}
+use lib.ListN.{getD, length}
 use Rattle.language.specs.Objects.{Obj, seq, Objs, _::_, lengthOf}
 use Rattle.language.specs.declared.Val.{Val}
 use Rattle.language.specs.declared.Meter.{Meter}
-use Rattle.tables.proofs.Records.{length-record, record-below, record-first, record-second, record-third, record-fourth}
+use Rattle.tables.proofs.Records.{length-record, record-below, record-behind, record-first, record-second, record-third, record-fourth}
 use Rattle.cells.specs.Cells.{Rep, rep-pos, rep-neg, rep-symbol, rep-nil, rep-more, valAt, nextAt, sequenceVal, Same, free, Room, cellPut}
 
 pub val-same : (v u : Val) → v .tag ≡ u .tag → v .word ≡ u .word → v ≡ u
@@ -53,6 +57,20 @@ module _ (C : List ℕ) (p : ℕ) (v : Val) (next : ℕ) where
       let lo = record-third C p (v .tag) next (v .word % 4294967296) (v .word / 4294967296) h in
       let hi = record-fourth C p (v .tag) next (v .word % 4294967296) (v .word / 4294967296) h in
       val-same (valAt (cellPut C p v next) p) v (record-first C p (v .tag) next (v .word % 4294967296) (v .word / 4294967296) h) (omega (arith, lo, hi))
+
+-- every other cell is as it was
+module _ (C : List ℕ) (p : ℕ) (v : Val) (next q : ℕ) where
+  cell-apart : (j : ℕ) → (q ≡ p → ⊥) → j < 4 → getD (cellPut C p v next) (q * 4 + j) 0 ≡ getD C (q * 4 + j) 0
+  cell-apart j h l = go (ltb q p) refl
+    where
+      go : (b : Bool) → ltb q p ≡ b → getD (cellPut C p v next) (q * 4 + j) 0 ≡ getD C (q * 4 + j) 0
+      go true e = record-below C p (v .tag) next (v .word % 4294967296) (v .word / 4294967296) (q * 4 + j) (omega (arith, ltb-true q p e))
+      go false e = record-behind C p (v .tag) next (v .word % 4294967296) (v .word / 4294967296) (q * 4 + j) (omega (arith, ltb-false q p e, h))
+
+  pub cell-other : (q ≡ p → ⊥) → valAt (cellPut C p v next) q ≡ valAt C q
+  cell-other h =
+      let tag = rw add-zero at (cell-apart 0 h (omega arith)) in
+      rw (tag, cell-apart 2 h (omega arith), cell-apart 3 h (omega arith))
 
 -- a new cell, at n, puts x before the sequence that `next` leads to
 pub rep-new : {C : List ℕ} {n : ℕ} {v : Val} {x : Obj} (next : ℕ) (xs : Objs) → n * 4 + 4 ≤ length C → Rep C n v x → Rep C n (sequenceVal next (lengthOf xs)) (seq xs) → Rep (cellPut C n v next) (n + 1) (sequenceVal (n + 1) (suc (lengthOf xs))) (seq (x :: xs))
