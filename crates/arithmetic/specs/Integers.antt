@@ -6,12 +6,12 @@ use lib.IntN.{ℤ, pos, negsuc, negℤ}
 use lib.Signed.{ltZ}
 use Rattle.language.specs.declared.Val.{Val}
 
-pub data Holds : Val → ℤ → Type 0 where
-  holds-pos : {v : Val} {k : ℕ} → v .tag ≡ 0 → v .word ≡ k → Holds v (pos k)
-  holds-neg : {v : Val} {k : ℕ} → v .tag ≡ 1 → v .word ≡ k → Holds v (negsuc k)
+pub data HoldsInteger : Val → ℤ → Type 0 where
+  holds-pos : {v : Val} {k : ℕ} → v .tag ≡ 0 → v .word ≡ k → HoldsInteger v (pos k)
+  holds-neg : {v : Val} {k : ℕ} → v .tag ≡ 1 → v .word ≡ k → HoldsInteger v (negsuc k)
 
 -- an integer of at most 2^31 and one, so that sums and products fit 64 bits
-pub record Small (v : Val) : Type 0 where
+pub record SmallInteger (v : Val) : Type 0 where
   pub tag : v .tag < 2
   pub word : v .word ≤ 2147483648
 
@@ -21,12 +21,12 @@ pub record Short (v : Val) : Type 0 where
   pub word : v .word < 2147483648
 
 -- r holds what the operation gives of the integers that a and b hold
-pub record Answers (f : ℤ → ℤ → ℤ) (a b r : Val) : Type 0 where
-  pub means : (i j : ℤ) → Holds a i → Holds b j → Holds r (f i j)
+pub record Computes (f : ℤ → ℤ → ℤ) (a b r : Val) : Type 0 where
+  pub means : (i j : ℤ) → HoldsInteger a i → HoldsInteger b j → HoldsInteger r (f i j)
 
 pub record Negated (a r : Val) : Type 0 where
-  pub small : Small r
-  pub means : (i : ℤ) → Holds a i → Holds r (negℤ i)
+  pub small : SmallInteger r
+  pub means : (i : ℤ) → HoldsInteger a i → HoldsInteger r (negℤ i)
 
 pub record Less (a b : Val) (r : Bool) : Type 0 where
-  pub means : (i j : ℤ) → Holds a i → Holds b j → r ≡ ltZ i j
+  pub means : (i j : ℤ) → HoldsInteger a i → HoldsInteger b j → r ≡ ltZ i j

@@ -3,7 +3,7 @@ ghost use mathlib.Core.Path.{_≡_};
 ghost use Prim.Native.Nat.{_+_, _<_, _≤_};
 ghost use lib.IntN.{pos, negℤ, subℕ, _+ℤ_, _-ℤ_, _*ℤ_};
 ghost use lib.Signed.{quotZ};
-ghost use Rattle.arithmetic.specs.Integers.{Holds, Small, Short, Answers, Negated, Less};
+ghost use Rattle.arithmetic.specs.Integers.{HoldsInteger, SmallInteger, Short, Computes, Negated, Less};
 use language::Val;
 
 // The tag of an integer from 0 on.
@@ -14,7 +14,7 @@ const NEGATIVE: u32 = 1;
 
 // The integer n.
 pub fn positive(n: u64) -> Val
-    ensures { λ r. ⌜ Holds r (pos n) ⌝ }
+    ensures { λ r. ⌜ HoldsInteger r (pos n) ⌝ }
 {
     Val {
         tag: POSITIVE,
@@ -24,7 +24,7 @@ pub fn positive(n: u64) -> Val
 
 // The integer -n.
 fn negative(n: u64) -> Val
-    ensures { λ r. ⌜ Holds r (negℤ (pos n)) ⌝ }
+    ensures { λ r. ⌜ HoldsInteger r (negℤ (pos n)) ⌝ }
 {
     if n == 0 {
         return Val {
@@ -40,7 +40,7 @@ fn negative(n: u64) -> Val
 
 // The integer x - y.
 fn difference(x: u64, y: u64) -> Val
-    ensures { λ r. ⌜ Holds r (subℕ x y) ⌝ }
+    ensures { λ r. ⌜ HoldsInteger r (subℕ x y) ⌝ }
 {
     if x < y {
         return Val {
@@ -56,7 +56,7 @@ fn difference(x: u64, y: u64) -> Val
 
 // The integer without its sign.
 fn magnitude(v: Val) -> u64
-    requires { ⌜ Small v ⌝ }
+    requires { ⌜ SmallInteger v ⌝ }
     ensures { λ r. ⌜ (r ≡ v .word + v .tag) × (r ≤ 2147483649) ⌝ }
 {
     v.word + v.tag as u64
@@ -74,8 +74,8 @@ fn negated(v: Val) -> Val
 }
 
 pub fn add(a: Val, b: Val) -> Val
-    requires { ⌜ Small a × Small b ⌝ }
-    ensures { λ r. ⌜ Answers _+ℤ_ a b r ⌝ }
+    requires { ⌜ SmallInteger a × SmallInteger b ⌝ }
+    ensures { λ r. ⌜ Computes _+ℤ_ a b r ⌝ }
 {
     let x = a.word;
     let y = b.word;
@@ -93,14 +93,14 @@ pub fn add(a: Val, b: Val) -> Val
 
 pub fn subtract(a: Val, b: Val) -> Val
     requires { ⌜ Short a × Short b ⌝ }
-    ensures { λ r. ⌜ Answers _-ℤ_ a b r ⌝ }
+    ensures { λ r. ⌜ Computes _-ℤ_ a b r ⌝ }
 {
     add(a, negated(b))
 }
 
 pub fn multiply(a: Val, b: Val) -> Val
-    requires { ⌜ Small a × Small b ⌝ }
-    ensures { λ r. ⌜ Answers _*ℤ_ a b r ⌝ }
+    requires { ⌜ SmallInteger a × SmallInteger b ⌝ }
+    ensures { λ r. ⌜ Computes _*ℤ_ a b r ⌝ }
 {
     let n = magnitude(a) * magnitude(b);
     if a.tag == b.tag {
@@ -111,8 +111,8 @@ pub fn multiply(a: Val, b: Val) -> Val
 
 // The quotient, cut toward zero.
 pub fn divide(a: Val, b: Val) -> Val
-    requires { ⌜ Small a × Small b × (0 < b .word + b .tag) ⌝ }
-    ensures { λ r. ⌜ Answers quotZ a b r ⌝ }
+    requires { ⌜ SmallInteger a × SmallInteger b × (0 < b .word + b .tag) ⌝ }
+    ensures { λ r. ⌜ Computes quotZ a b r ⌝ }
 {
     let n = magnitude(a) / magnitude(b);
     if a.tag == b.tag {

@@ -1,10 +1,10 @@
 -- Laws of printing: a number with the byte behind it, and six of them as one line.
-use Prim.Native.Nat.{ℕ, suc, _+_, _-_, _^_, _≤_, _<_}
+use Prim.Native.Nat.{ℕ, _+_, _-_, _≤_, _<_}
 use mathlib.Core.Path.{_≡_, refl, ap, sym, subst, _∙_}
 use mathlib.Core.List.{List, [], _∷_, _++_, append-assoc, append-nil}
 use native.Mathlib.Omega.{arith}
 use borrow.Author.Tests.{eq-eqb, ne-eqb}
-use lib.ListN.{length, take, drop, set, length-append, length-drop}
+use lib.ListN.{length, take, set, length-append, length-drop}
 use lib.Seq.{slice, take-all, length-take-le}
 use Rattle.language.specs.Bytes.{bytes}
 use Rattle.language.specs.Writing.{decimal}

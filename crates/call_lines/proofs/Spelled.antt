@@ -1,5 +1,5 @@
 -- Laws of numerals and budgets: the loop over digits, each way out of the numeral reader, and the three numerals of a line.
-use Prim.Native.Nat.{ℕ, zero, suc, _+_, _-_, _*_, _^_, _≤_, _<_, min}
+use Prim.Native.Nat.{ℕ, zero, suc, _+_, _-_, _≤_, _<_, min}
 use mathlib.Core.Path.{_≡_, refl, ap, sym, _∙_}
 use mathlib.Core.Bool.{Bool, true, false, not, _&&_}
 use mathlib.Core.List.{List, [], _∷_}
@@ -12,7 +12,7 @@ use lib.ListN.{length, getD}
 use lib.Seq.{slice, length-slice}
 use Rattle.language.specs.Tokens.{isDigit}
 use Rattle.language.specs.Judging.{all, valueOf, leadingZero}
-use Rattle.language.specs.Fprun.{split, onThree, isNumeral, onNumeral, budgetsIn}
+use Rattle.language.specs.Fprun.{split, onThree, isNumeral, onNumeral}
 use Rattle.language.specs.declared.Meter.{Meter}
 use Rattle.theorems.proofs.JudgedWords.{value-bound}
 use Rattle.packing.proofs.Slices.{slice-first}

@@ -1,5 +1,5 @@
 -- Laws of `split`: a byte passed, a byte found, the end; and the shapes of texts that are not three lines.
-use Prim.Native.Nat.{ℕ, zero, suc, _+_, _≤_, _<_}
+use Prim.Native.Nat.{ℕ, _+_, _≤_, _<_}
 use mathlib.Core.Path.{_≡_, refl, ap, sym, _∙_}
 use mathlib.Core.Bool.{Bool, true, false}
 use mathlib.Core.List.{List, [], _∷_, _++_, append-assoc, append-nil}
@@ -8,13 +8,12 @@ use native.Mathlib.Numerals.{add-one}
 use native.Mathlib.Omega.{arith}
 use borrow.Author.Tests.{eq-eqb, ne-eqb, ltb-true, ltb-false}
 use lib.Dec.{eqb, ltb}
-use lib.ListN.{length, take, drop, getD}
+use lib.ListN.{length, take, getD}
 use lib.Seq.{slice, slice-empty, take-suc, take-length, drop-append-le, length-take-le}
 use Rattle.language.specs.Fprun.{putFirst, split, onLines}
 use Rattle.packing.proofs.Slices.{slice-first}
 use Rattle.lexer.proofs.Spans.{slice-none}
 use Rattle.call_lines.specs.Cutting.{Found, LinesCut, three-lines, other-shape}
-use Rattle.call_lines.specs.declared.Lines.{Lines}
 use Rattle.call_lines.specs.declared.Lines.the-variants.{Three, Other}
 
 -- p before the first piece

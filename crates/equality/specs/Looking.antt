@@ -17,8 +17,8 @@ abbrev pub stepsTaken : ℕ → Meter → Meter
 stepsTaken n m = record { steps = m .steps - n; names = m .names; cells = m .cells }
 
 -- a step for each pair that was looked at; where fewer are left they are all taken
-unfoldable pub ended : Looked → Meter → Compared
-ended l m =
+unfoldable pub comparedEnd : Looked → Meter → Compared
+comparedEnd l m =
     cond (leb (l .pairs) (m .steps))
     (cond (l .same) (Equal (stepsTaken (l .pairs) m)) (Differ (stepsTaken (l .pairs) m)))
     (Out (record { steps = 0; names = m .names; cells = m .cells }))
@@ -34,26 +34,26 @@ pub record Fewer (k m : Meter) : Type 0 where
   pub steps : k .steps < m .steps
   pub names : k .names ≡ m .names
 
-pub record NoMore (k m : Meter) : Type 0 where
+pub record MeterNoMore (k m : Meter) : Type 0 where
   pub steps : k .steps ≤ m .steps
   pub names : k .names ≡ m .names
 
-abbrev pub Falls : Compared → Meter → Type 0
-Falls (Equal k) m = Fewer k m
-Falls (Differ k) m = Fewer k m
-Falls (Out k) m = Unit {0}
+abbrev pub ComparedFalls : Compared → Meter → Type 0
+ComparedFalls (Equal k) m = Fewer k m
+ComparedFalls (Differ k) m = Fewer k m
+ComparedFalls (Out k) m = Unit {0}
 
-abbrev pub Sinks : Compared → Meter → Type 0
-Sinks (Equal k) m = NoMore k m
-Sinks (Differ k) m = NoMore k m
-Sinks (Out k) m = Unit {0}
+abbrev pub ComparedSinks : Compared → Meter → Type 0
+ComparedSinks (Equal k) m = MeterNoMore k m
+ComparedSinks (Differ k) m = MeterNoMore k m
+ComparedSinks (Out k) m = Unit {0}
 
 -- two objects are looked at
 pub record Looks (C : List ℕ) (a b : Val) (m : Meter) (r : Compared) : Type 0 where
-  pub falls : Falls r m
-  pub means : (n : ℕ) (x y : Obj) → n < 4294967296 → Rep C n a x → Rep C n b y → r ≡ ended (look x y) m
+  pub falls : ComparedFalls r m
+  pub means : (n : ℕ) (x y : Obj) → n < 4294967296 → Rep C n a x → Rep C n b y → r ≡ comparedEnd (look x y) m
 
 -- the places of two sequences are looked at
 pub record LooksAlong (C : List ℕ) (a b : Val) (m : Meter) (r : Compared) : Type 0 where
-  pub sinks : Sinks r m
-  pub means : (n : ℕ) (xs ys : Objs) → n < 4294967296 → Rep C n a (seq xs) → Rep C n b (seq ys) → r ≡ ended (lookAlong xs ys) m
+  pub sinks : ComparedSinks r m
+  pub means : (n : ℕ) (xs ys : Objs) → n < 4294967296 → Rep C n a (seq xs) → Rep C n b (seq ys) → r ≡ comparedEnd (lookAlong xs ys) m

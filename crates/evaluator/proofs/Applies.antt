@@ -5,7 +5,7 @@ use mathlib.Core.Path.{_≡_, refl, sym, ap, subst, _∙_}
 use mathlib.Core.List.{List}
 use lib.ListN.{length}
 use Rattle.language.specs.Objects.{Obj}
-use Rattle.language.specs.Forms.{select, selectRight, Form, word, name}
+use Rattle.language.specs.Forms.{select, selectRight, Form}
 use Rattle.language.specs.Numbers.{one}
 use Rattle.language.specs.declared.Meter.{Meter}
 use Rattle.language.specs.declared.Charge.{Charge}
@@ -25,8 +25,8 @@ use Rattle.tables.specs.Tables.{field}
 use Rattle.cells.specs.Cells.{Rep, free}
 use Rattle.cells.proofs.Reps.{same-refl, rep-ext}
 use Rattle.primitives.specs.Ends.{Gives, gives-value, gives-bottom, gives-spent, Leaf, Sinks}
-use Rattle.linker.specs.Linked.{FormIs, is-op, is-select, is-select-right, is-name, is-chain, is-construct, is-insert, is-all, is-condition, is-while, is-constant, is-bu, form-at, kindAt, constantAt}
-use Rattle.evaluator.specs.Applying.{Setting, by, At, Given, Alone, a-word, a-select, a-select-right, a-constant, no-kind, Applied, Falls, Chained, Built, Mapped, Inserted, Bound, Chosen, Repeated, Named, Copied, Ran}
+use Rattle.linker.specs.Linked.{FormIs, is-op, is-select, is-select-right, is-name, is-chain, is-construct, is-insert, is-all, is-condition, is-while, is-constant, is-bu, form-at, linkedKindAt, constantAt}
+use Rattle.evaluator.specs.Applying.{Setting, by, At, Given, Alone, a-word, a-select, a-select-right, a-constant, no-kind, Applied, Falls, Chained, Constructed, Mapped, Inserted, Bound, Chosen, Repeated, NameApplied, FormsCopied, Ran}
 use Rattle.primitives.specs.Leaves.{Coded}
 use Rattle.evaluator.proofs.Copies.{def-copied}
 use Rattle.primitives.proofs.Ending.{agree-self}
@@ -47,9 +47,9 @@ pub record Bare (κ : ℕ) : Type 0 where
 pub data Dispatched (F C W : List ℕ) (top i : ℕ) (v : Val) (m : Meter) : ℕ → Ended → List ℕ → List ℕ → Type 0 where
   on-word : {r : Ended} {C₁ : List ℕ} → Alone F C i v m 1 r C₁ → Dispatched F C W top i v m 1 r C₁ W
   on-leaf : {κ : ℕ} {r : Ended} {C₁ : List ℕ} → Bare κ → Alone F C i v m κ r C₁ → Dispatched F C W top i v m κ r C₁ W
-  on-name : {d : ℕ} {r : Ended} {C₁ W₁ : List ℕ} → d ≡ field F i 1 → Named F C W top d v m r C₁ W₁ → Dispatched F C W top i v m 4 r C₁ W₁
+  on-name : {d : ℕ} {r : Ended} {C₁ W₁ : List ℕ} → d ≡ field F i 1 → NameApplied F C W top d v m r C₁ W₁ → Dispatched F C W top i v m 4 r C₁ W₁
   on-chain : {j : ℕ} {r : Ended} {C₁ W₁ : List ℕ} → j ≡ field F i 2 → Chained F C W top j v m r C₁ W₁ → Dispatched F C W top i v m 5 r C₁ W₁
-  on-construct : {h many : ℕ} {r : Ended} {C₁ W₁ : List ℕ} → h ≡ (i + 1) % 4294967296 → many ≡ field F i 1 → Built F C W top h many v m r C₁ W₁ → Dispatched F C W top i v m 6 r C₁ W₁
+  on-construct : {h many : ℕ} {r : Ended} {C₁ W₁ : List ℕ} → h ≡ (i + 1) % 4294967296 → many ≡ field F i 1 → Constructed F C W top h many v m r C₁ W₁ → Dispatched F C W top i v m 6 r C₁ W₁
   on-insert : {h : ℕ} {r : Ended} {C₁ W₁ : List ℕ} → h ≡ (i + 1) % 4294967296 → Inserted F C W top h v m r C₁ W₁ → Dispatched F C W top i v m 7 r C₁ W₁
   on-all : {h : ℕ} {r : Ended} {C₁ W₁ : List ℕ} → h ≡ (i + 1) % 4294967296 → Mapped F C W top h v m r C₁ W₁ → Dispatched F C W top i v m 8 r C₁ W₁
   on-condition : {h : ℕ} {r : Ended} {C₁ W₁ : List ℕ} → h ≡ (i + 1) % 4294967296 → Chosen F C W top h v m r C₁ W₁ → Dispatched F C W top i v m 9 r C₁ W₁
@@ -136,13 +136,13 @@ falls-after : (r : Ended) (m m₁ : Meter) → Sinks r m₁ → Left m m₁ 1 0 
 falls-after (Done v k) m m₁ s c = (omega (arith, s .0, c .steps), omega (arith, s .1, c .names))
 falls-after (Stop v k) m m₁ s e = tt
 
-apply-means : {F C W C₁ W₁ : List ℕ} {κ top i : ℕ} {v : Val} {m m₁ : Meter} {f : Form} {x : Obj} {r : Ended} (S : Setting) (k : ℕ) → kindAt F i ≡ κ → stepCharge m ≡ Granted m₁ → Left m m₁ 1 0 0 → Dispatched F C W top i v m₁ κ r C₁ W₁ → At F S i f → Given F S k C W m v x → Ends C W top m (by S k f x m) C₁ W₁ r
+apply-means : {F C W C₁ W₁ : List ℕ} {κ top i : ℕ} {v : Val} {m m₁ : Meter} {f : Form} {x : Obj} {r : Ended} (S : Setting) (k : ℕ) → linkedKindAt F i ≡ κ → stepCharge m ≡ Granted m₁ → Left m m₁ 1 0 0 → Dispatched F C W top i v m₁ κ r C₁ W₁ → At F S i f → Given F S k C W m v x → Ends C W top m (by S k f x m) C₁ W₁ r
 apply-means S zero q e c d at g = absurd (omega (arith, c .steps, g .fuel))
 apply-means {F} {C} {W} {top = top} {i} {m = m} {f = f} {x} S (suc k) q e c d (form-at l q₁ fi) g =
     ends-eq (step-asked m (λ m₁. inside (by S k) k one (S .prog) f x m₁) ∙ ap (λ u. onCharge u noStep (λ m₁. inside (by S k) k one (S .prog) f x m₁)) e)
     (ends-since (since-step C W top c) (dispatch S k l (subst (λ (n : ℕ). FormIs F (S .cells) (S .few) (S .root) n i f) (sym q₁ ∙ q) fi) d (given-charged 1 0 k c (omega arith) g)))
 
-pub applied : {F C W C₁ W₁ : List ℕ} {κ κ₁ top i : ℕ} {v : Val} {m m₁ : Meter} {ch : Charge} {r : Ended} → ch ≡ stepCharge m → ch ≡ Granted m₁ → κ₁ ≡ kindAt F i → κ₁ ≡ κ → Dispatched F C W top i v m₁ κ r C₁ W₁ → Applied F C W top i v m r C₁ W₁
+pub applied : {F C W C₁ W₁ : List ℕ} {κ κ₁ top i : ℕ} {v : Val} {m m₁ : Meter} {ch : Charge} {r : Ended} → ch ≡ stepCharge m → ch ≡ Granted m₁ → κ₁ ≡ linkedKindAt F i → κ₁ ≡ κ → Dispatched F C W top i v m₁ κ r C₁ W₁ → Applied F C W top i v m r C₁ W₁
 applied {m = m} {m₁} {r = r} a b q z d =
     let e = sym a ∙ b in
     let c = step-granted m e in
@@ -155,7 +155,7 @@ spent-means S f x m (suc k) e = step-asked m (λ m₁. inside (by S k) k one (S 
 pub apply-spent : {F C W : List ℕ} {top i : ℕ} {v : Val} {m m₁ : Meter} {ch : Charge} → ch ≡ stepCharge m → ch ≡ Spent m₁ → Applied F C W top i v m (Stop 22 m₁) C W
 apply-spent {m = m} {m₁} a b = record { falls = tt; means = λ S k f x at g. ends-stop (ran-out (spent-means S f x m k (sym a ∙ b)) refl (agree-self m₁)) }
 
-pub apply-leaf : {F C W C₁ : List ℕ} {κ top i : ℕ} {v : Val} {m m₁ : Meter} {ch : Charge} {r : Ended} → ch ≡ stepCharge m → ch ≡ Granted m₁ → κ ≡ kindAt F i → (κ ≡ 4 → ⊥) → (κ ≡ 5 → ⊥) → (κ ≡ 6 → ⊥) → (κ ≡ 7 → ⊥) → (κ ≡ 8 → ⊥) → (κ ≡ 9 → ⊥) → (κ ≡ 10 → ⊥) → (κ ≡ 16 → ⊥) → Alone F C i v m₁ κ r C₁ → Applied F C W top i v m r C₁ W
+pub apply-leaf : {F C W C₁ : List ℕ} {κ top i : ℕ} {v : Val} {m m₁ : Meter} {ch : Charge} {r : Ended} → ch ≡ stepCharge m → ch ≡ Granted m₁ → κ ≡ linkedKindAt F i → (κ ≡ 4 → ⊥) → (κ ≡ 5 → ⊥) → (κ ≡ 6 → ⊥) → (κ ≡ 7 → ⊥) → (κ ≡ 8 → ⊥) → (κ ≡ 9 → ⊥) → (κ ≡ 10 → ⊥) → (κ ≡ 16 → ⊥) → Alone F C i v m₁ κ r C₁ → Applied F C W top i v m r C₁ W
 apply-leaf a b q n4 n5 n6 n7 n8 n9 n10 n16 l = applied a b q refl (on-leaf (record { not4 = n4; not5 = n5; not6 = n6; not7 = n7; not8 = n8; not9 = n9; not10 = n10; not16 = n16 }) l)
 
 -- ---- forms with no parts, by their kinds
@@ -185,13 +185,13 @@ ran-spent {C = C} {m = m} {m₁} a b = record {
   means = λ P root x ds q rm p. gives-eq (spent-means (record { prog = P; root = root; cells = C; few = free C m }) mainForm x m (m .steps) (sym a ∙ b)) (gives-spent refl (agree-self m₁));
 }
 
-run-means : {F C W C₁ W₁ : List ℕ} {d : ℕ} {v : Val} {m m₁ : Meter} {x : Obj} {r : Ended} (S : Setting) (k : ℕ) → m .steps ≤ k → stepCharge m ≡ Granted m₁ → Left m m₁ 1 0 0 → Named F C W 0 d v m₁ r C₁ W₁ → d ≡ S .root (bytes "main") → Given F S k C W m v x → Ends C W 0 m (by S k mainForm x m) C₁ W₁ r
+run-means : {F C W C₁ W₁ : List ℕ} {d : ℕ} {v : Val} {m m₁ : Meter} {x : Obj} {r : Ended} (S : Setting) (k : ℕ) → m .steps ≤ k → stepCharge m ≡ Granted m₁ → Left m m₁ 1 0 0 → NameApplied F C W 0 d v m₁ r C₁ W₁ → d ≡ S .root (bytes "main") → Given F S k C W m v x → Ends C W 0 m (by S k mainForm x m) C₁ W₁ r
 run-means S zero l e c n q g = absurd (omega (arith, c .steps))
 run-means {C = C} {W} {m = m} {x = x} S (suc k) l e c n q g =
     ends-eq (step-asked m (λ m₁. inside (by S k) k one (S .prog) mainForm x m₁) ∙ ap (λ u. onCharge u noStep (λ m₁. inside (by S k) k one (S .prog) mainForm x m₁)) e)
     (ends-since (since-step C W 0 c) (n .means S k (bytes "main") x main-name q (given-charged 1 0 k c (omega arith) g)))
 
-pub ran : {F T C W C₁ W₁ : List ℕ} {d : ℕ} {v : Val} {m m₁ : Meter} {ch : Charge} {r : Ended} → ch ≡ stepCharge m → ch ≡ Granted m₁ → Copied F T → length W ≡ 16384 → Named T C W 0 d v m₁ r C₁ W₁ → Ran F C d v m r C₁
+pub ran : {F T C W C₁ W₁ : List ℕ} {d : ℕ} {v : Val} {m m₁ : Meter} {ch : Charge} {r : Ended} → ch ≡ stepCharge m → ch ≡ Granted m₁ → FormsCopied F T → length W ≡ 16384 → NameApplied T C W 0 d v m₁ r C₁ W₁ → Ran F C d v m r C₁
 ran {C = C} {m = m} a b t l n =
     let e = sym a ∙ b in
     record {

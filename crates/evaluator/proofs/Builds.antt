@@ -17,7 +17,7 @@ use Rattle.cells.specs.Parts.{holdAt, Sized, Headed, Tailed}
 use Rattle.cells.proofs.Reps.{rep-ext}
 use Rattle.cells.proofs.Ring.{hold-length}
 use Rattle.linker.specs.Linked.{no-part, a-part, linkAt}
-use Rattle.evaluator.specs.Applying.{Setting, by, At, AllAt, Given, Applied, Built, Mapped, Slotted, Collected}
+use Rattle.evaluator.specs.Applying.{Setting, by, At, AllAt, Given, Applied, Constructed, Mapped, Slotted, Collected}
 use Rattle.primitives.proofs.Ending.{agree-self}
 use Rattle.evaluator.proofs.Steps.{since-refl, free-up, gave, gave-stop, ends-eq, given-next, given-again, given-held, few-cells, applied-as, sinks-le}
 use Rattle.evaluator.proofs.Waits.{Waiting, wait-start, wait-next, wait-stop, wait-closed}
@@ -31,9 +31,6 @@ slot-stop {W₁ = W₁} a e = record { mid = W₁; app = applied-as e a; put = t
 
 slotted-as : {F C W C₁ W₁ : List ℕ} {t i : ℕ} {v : Val} {m : Meter} {r r′ : Ended} → r ≡ r′ → Slotted F C W t i v m r C₁ W₁ → Slotted F C W t i v m r′ C₁ W₁
 slotted-as {F} {C} {W} {C₁} {W₁} {t} {i} {v} {m} e a = subst (λ r. Slotted F C W t i v m r C₁ W₁) e a
-
-pub slot-fell : {F C W C₁ W₁ : List ℕ} {t i : ℕ} {v y : Val} {m k : Meter} {r : Ended} → Slotted F C W t i v m r C₁ W₁ → r ≡ Done y k → k .steps < m .steps
-slot-fell s e = slotted-as e s .app .falls .0
 
 -- ---- a construction
 pub record BuildNow (F : List ℕ) (S : Setting) (k : ℕ) (Cs Ws : List ℕ) (top many : ℕ) (v : Val) (m : Meter) (x : Obj) (all : Out Objs) (C W : List ℕ) (j q : ℕ) (n : Meter) : Type 0 where
@@ -84,7 +81,7 @@ build-turn {F} {C = C} {W} {C₁} {W₂} {j = j} {v = v} {y = y} {n = n} {n₁} 
     let a = subst (λ (t : ℕ). Slotted F C W t j v n (Done y n₁) C₁ W₂) te (slotted-as e s) in
     build-next l b (a .app) (a .put) z fj lc
 
-pub build-halt : {F Cs Ws C W C₁ W₂ : List ℕ} {top h many j q t a : ℕ} {v : Val} {m n n₁ : Meter} {r : Ended} → q < many → Building F Cs Ws top h many v m C W j q n → Slotted F C W t j v n r C₁ W₂ → r ≡ Stop a n₁ → Built F Cs Ws top h many v m (Stop a n₁) C₁ W₂
+pub build-halt : {F Cs Ws C W C₁ W₂ : List ℕ} {top h many j q t a : ℕ} {v : Val} {m n n₁ : Meter} {r : Ended} → q < many → Building F Cs Ws top h many v m C W j q n → Slotted F C W t j v n r C₁ W₂ → r ≡ Stop a n₁ → Constructed F Cs Ws top h many v m (Stop a n₁) C₁ W₂
 build-halt {q = q} l b s e =
     let a = slotted-as e s in
     record { sinks = tt; means = λ S k fs x ct p g. let h = b .means S k fs x ct p g in ends-stop (stop-build S k q l (h .left) (h .at) (h .given) (h .waits) (a .app)) }
@@ -93,7 +90,7 @@ none-left : (fs : Forms) (S : Setting) (k : ℕ) (x : Obj) (n : Meter) → count
 none-left stop S k x n e = refl
 none-left (f & fs) S k x n e = absurd (omega arith)
 
-pub build-done : {F Cs Ws C W C₁ : List ℕ} {top h many j q : ℕ} {v : Val} {m n : Meter} {r : Ended} → many ≤ q → Building F Cs Ws top h many v m C W j q n → Collected C W top many n r C₁ → Built F Cs Ws top h many v m r C₁ W
+pub build-done : {F Cs Ws C W C₁ : List ℕ} {top h many j q : ℕ} {v : Val} {m n : Meter} {r : Ended} → many ≤ q → Building F Cs Ws top h many v m C W j q n → Collected C W top many n r C₁ → Constructed F Cs Ws top h many v m r C₁ W
 build-done {C = C} {W} {C₁} {top} {many = many} {q = q} {m = m} {n} {r} l b c =
     let qc : many ≡ q = omega (arith, b .most) in
     let c₁ : Collected C W top q n r C₁ = subst (λ (z : ℕ). Collected C W top z n r C₁) qc c in

@@ -23,7 +23,7 @@ use Rattle.evaluator.specs.declared.waiting.Asked.{Asked}
 use Rattle.evaluator.specs.declared.waiting.Asked.the-variants.{Says, Stop as AskStop}
 use Rattle.linker.specs.Linked.{FormAt, none-yet, one-more, DefAt, no-def, a-def, linkAt}
 use Rattle.evaluator.specs.Ring.{Finished, Stopped, fell, ran-out, ends-done, ends-stop}
-use Rattle.evaluator.specs.Applying.{Setting, by, At, LastAt, Given, Applied, Chained, Chosen, Named, nameBy, Branch, Answers, says-yes, says-no, says-stop, Questioned}
+use Rattle.evaluator.specs.Applying.{Setting, by, At, LastAt, Given, Applied, Chained, Chosen, NameApplied, nameBy, Branch, QuestionSays, says-yes, says-no, says-stop, Questioned}
 use Rattle.primitives.proofs.Ending.{agree-self}
 use Rattle.evaluator.proofs.Steps.{Since, since, since-refl, since-trans, gave, gave-stop, ends-since, ends-eq, stopped-eq, stopped-bind, stopped-close, given-value, given-again, given-charged, applied-as, sinks-after, decide-true, decide-false, decide-none}
 
@@ -166,15 +166,15 @@ pub record Said (C W : List ℕ) (top : ℕ) (m : Meter) (e : Out Obj) (t : Trut
   pub done : Finished C W top m e val k C₁ W₁
   pub says : truthOf (done .obj) ≡ t
 
-said-yes : {C W C₁ W₁ : List ℕ} {top b : ℕ} {m k : Meter} {e : Out Obj} → (b ≡ 0 → ⊥) → Answers C W top m e C₁ W₁ (Says b k) → Said C W top m e isT k C₁ W₁
+said-yes : {C W C₁ W₁ : List ℕ} {top b : ℕ} {m k : Meter} {e : Out Obj} → (b ≡ 0 → ⊥) → QuestionSays C W top m e C₁ W₁ (Says b k) → Said C W top m e isT k C₁ W₁
 said-yes z (says-yes {v = v} u t) = record { val = v; done = u; says = t }
 said-yes z (says-no u t) = absurd (z refl)
 
-said-no : {C W C₁ W₁ : List ℕ} {top b : ℕ} {m k : Meter} {e : Out Obj} → b ≡ 0 → Answers C W top m e C₁ W₁ (Says b k) → Said C W top m e isF k C₁ W₁
+said-no : {C W C₁ W₁ : List ℕ} {top b : ℕ} {m k : Meter} {e : Out Obj} → b ≡ 0 → QuestionSays C W top m e C₁ W₁ (Says b k) → Said C W top m e isF k C₁ W₁
 said-no z (says-no {v = v} u t) = record { val = v; done = u; says = t }
 said-no z (says-yes u t) = absurd (omega arith)
 
-said-stop : {C W C₁ W₁ : List ℕ} {top a : ℕ} {m k : Meter} {e : Out Obj} → Answers C W top m e C₁ W₁ (AskStop a k) → (onT onF : Meter → Out Obj) → Stopped (bind e (λ b m₁. decide b m₁ onT onF)) a k
+said-stop : {C W C₁ W₁ : List ℕ} {top a : ℕ} {m k : Meter} {e : Out Obj} → QuestionSays C W top m e C₁ W₁ (AskStop a k) → (onT onF : Meter → Out Obj) → Stopped (bind e (λ b m₁. decide b m₁ onT onF)) a k
 said-stop (says-stop s) = s
 
 -- the three ways that a question goes
@@ -224,7 +224,7 @@ none-named : {F C : List ℕ} {n d : ℕ} {root : List ℕ → ℕ} {b : Option 
 none-named ev x m z (no-def e) = refl
 none-named ev x m z (a-def {i = i} e f) = absurd (omega arith)
 
-pub name-none : {F C W : List ℕ} {top d : ℕ} {v : Val} {m : Meter} → d ≡ 0 → Named F C W top d v m (Stop 21 m) C W
+pub name-none : {F C W : List ℕ} {top d : ℕ} {v : Val} {m : Meter} → d ≡ 0 → NameApplied F C W top d v m (Stop 21 m) C W
 name-none {m = m} z = record { sinks = tt; means = λ S k w x nm q gv. ends-stop (fell (none-named (by S k) x m (sym q ∙ z) (gv .defs w nm)) refl (agree-self m)) }
 
 -- a defined name is asked for, and then its body
@@ -246,14 +246,14 @@ body {F} {S = S} w nm z q gv =
     let b = body-of (λ e. z (q ∙ e)) (gv .defs w nm) in
     record { form = b .0; is = b .1; at = subst (λ (j : ℕ). At F S (j - 1) (b .0)) (sym q) (b .2) }
 
-pub name-full : {F C W : List ℕ} {top d : ℕ} {v : Val} {m n : Meter} {ch : Charge} → (d ≡ 0 → ⊥) → ch ≡ nameCharge m → ch ≡ Spent n → Named F C W top d v m (Stop 23 n) C W
+pub name-full : {F C W : List ℕ} {top d : ℕ} {v : Val} {m n : Meter} {ch : Charge} → (d ≡ 0 → ⊥) → ch ≡ nameCharge m → ch ≡ Spent n → NameApplied F C W top d v m (Stop 23 n) C W
 name-full {m = m} {n} z a b = record {
   sinks = tt;
   means = λ S k w x nm q gv. let y = body w nm z q gv in
       ends-stop (ran-out (body-asked (by S k) (y .form) x m (y .is) ∙ ap (λ u. onCharge u noName (λ m₁. close (m .names) (by S k (y .form) x m₁))) (sym a ∙ b)) refl (agree-self n));
 }
 
-pub name-stop : {F C W C₁ W₁ : List ℕ} {top d a : ℕ} {v : Val} {m m₁ n : Meter} {ch : Charge} {r : Ended} → (d ≡ 0 → ⊥) → ch ≡ nameCharge m → ch ≡ Granted m₁ → Applied F C W top (d - 1) v m₁ r C₁ W₁ → r ≡ Stop a n → Named F C W top d v m (Stop a n) C₁ W₁
+pub name-stop : {F C W C₁ W₁ : List ℕ} {top d a : ℕ} {v : Val} {m m₁ n : Meter} {ch : Charge} {r : Ended} → (d ≡ 0 → ⊥) → ch ≡ nameCharge m → ch ≡ Granted m₁ → Applied F C W top (d - 1) v m₁ r C₁ W₁ → r ≡ Stop a n → NameApplied F C W top d v m (Stop a n) C₁ W₁
 name-stop {m = m} {m₁} z a b p e = record {
   sinks = tt;
   means = λ S k w x nm q gv. let y = body w nm z q gv in
@@ -280,7 +280,7 @@ closed-body {C} {C₁ = C₁} {m = m} {m₁} {n} q c ns z u =
       kept = record { keep = λ d h s. u .kept .keep d h (omega arith) };
     })
 
-pub name-done : {F C W C₁ W₁ : List ℕ} {top d : ℕ} {v y : Val} {m m₁ n n₁ : Meter} {ch : Charge} {r : Ended} → (d ≡ 0 → ⊥) → ch ≡ nameCharge m → ch ≡ Granted m₁ → Applied F C W top (d - 1) v m₁ r C₁ W₁ → r ≡ Done y n → n₁ ≡ nameGiven n → Named F C W top d v m (Done y n₁) C₁ W₁
+pub name-done : {F C W C₁ W₁ : List ℕ} {top d : ℕ} {v y : Val} {m m₁ n n₁ : Meter} {ch : Charge} {r : Ended} → (d ≡ 0 → ⊥) → ch ≡ nameCharge m → ch ≡ Granted m₁ → Applied F C W top (d - 1) v m₁ r C₁ W₁ → r ≡ Done y n → n₁ ≡ nameGiven n → NameApplied F C W top d v m (Done y n₁) C₁ W₁
 name-done {m = m} {m₁} {n} {n₁} z a b p e cl =
     let c = name-granted m (sym a ∙ b) in
     let p₁ = applied-as e p in

@@ -1,5 +1,5 @@
 -- Forms that stand in a table stand in a copy of its first 8,192 numbers too.
-use Prim.Native.Nat.{ℕ, zero, suc, _+_, _*_, _/_, _%_, _≤_, _<_}
+use Prim.Native.Nat.{ℕ, _+_, _*_, _/_, _%_, _≤_, _<_}
 use native.Mathlib.Omega.{arith}
 use mathlib.Core.Path.{_≡_, refl, sym, ap, subst, _∙_}
 use mathlib.Core.List.{List}
@@ -11,20 +11,19 @@ use lib.ListN.{getD, length, set, length-set}
 use lib.Seq.{getD-set-same, getD-set-other}
 use Rattle.language.specs.Objects.{Obj}
 use Rattle.language.specs.Forms.{Form, Forms}
-use Rattle.language.specs.declared.Val.{Val}
 use Rattle.tables.specs.Tables.{field}
 use Rattle.cells.specs.Cells.{Rep}
-use Rattle.linker.specs.Linked.{FormIs, is-op, is-select, is-select-right, is-name, is-chain, is-construct, is-insert, is-all, is-condition, is-while, is-constant, is-bu, FormAt, form-at, PartsAt, no-part, a-part, UpTo, none-yet, one-more, DefAt, no-def, a-def, grouped, kindAt, linkAt, constantAt}
-use Rattle.evaluator.specs.Applying.{Copied}
+use Rattle.linker.specs.Linked.{FormIs, is-op, is-select, is-select-right, is-name, is-chain, is-construct, is-insert, is-all, is-condition, is-while, is-constant, is-bu, FormAt, form-at, PartsAt, no-part, a-part, UpTo, none-yet, one-more, DefAt, no-def, a-def, grouped, linkedKindAt, linkAt, constantAt}
+use Rattle.evaluator.specs.Applying.{FormsCopied}
 
-module _ {F T : List ℕ} (c : Copied F T) where
+module _ {F T : List ℕ} (c : FormsCopied F T) where
   number : (i : ℕ) → i < 2048 → getD T (i * 4) 0 ≡ getD F (i * 4) 0
   number i l = c .same (i * 4) (omega arith)
 
   part : (i d : ℕ) → i < 2048 → d < 4 → field T i d ≡ field F i d
   part i d l h = c .same (i * 4 + d) (omega arith)
 
-  kind : (i : ℕ) → i < 2048 → kindAt T i ≡ kindAt F i
+  kind : (i : ℕ) → i < 2048 → linkedKindAt T i ≡ linkedKindAt F i
   kind i l = ap (λ (x : ℕ). grouped (x % 32)) (number i l)
 
   link : (i : ℕ) → i < 2048 → linkAt T i ≡ linkAt F i
@@ -33,7 +32,7 @@ module _ {F T : List ℕ} (c : Copied F T) where
   constant-rep : {C : List ℕ} {n : ℕ} {x : Obj} (i : ℕ) → i < 2048 → Rep C n (constantAt F i) x → Rep C n (constantAt T i) x
   constant-rep i l r = rw (number i l, part i 2 l (omega arith), part i 3 l (omega arith)) r
 
-module _ {F T C : List ℕ} {n : ℕ} {root : List ℕ → ℕ} (c : Copied F T) where
+module _ {F T C : List ℕ} {n : ℕ} {root : List ℕ → ℕ} (c : FormsCopied F T) where
   low : {i : ℕ} {f : Form} → FormAt F C n root i f → i < 2048
   low (form-at l q p) = l
 
@@ -87,5 +86,5 @@ copy-turn {F} {T} {i} {v} l e c = record {
     one j h true q = subst (λ (n : ℕ). getD (set T i v) n 0 ≡ getD F n 0) (omega (arith, leb-true i j q)) (getD-set-same T i v 0 (omega (arith, c .long)) ∙ e)
     one j h false q = getD-set-other T i j v 0 (λ z. absurd (omega (arith, leb-false i j q))) ∙ c .same j (leb-false i j q)
 
-pub copy-end : {F T : List ℕ} {i : ℕ} → 8192 ≤ i → Copying F T i → Copied F T
+pub copy-end : {F T : List ℕ} {i : ℕ} → 8192 ≤ i → Copying F T i → FormsCopied F T
 copy-end l c = record { same = λ j h. c .same j (omega (arith, c .most)) }

@@ -16,7 +16,7 @@ use Rattle.cells.proofs.Places.{drop-first}
 use Rattle.primitives.specs.declared.Ended.{Ended}
 use Rattle.primitives.specs.declared.Ended.the-variants.{Done, Stop}
 use Rattle.primitives.proofs.Ending.{agree-self}
-use Rattle.evaluator.specs.Ring.{Kept, Stopped, fell, Ends, ends-done, ends-stop}
+use Rattle.evaluator.specs.Ring.{RingKept, Stopped, fell, Ends, ends-done, ends-stop}
 use Rattle.evaluator.specs.Applying.{Setting, by, At, Given, Spends, Folded, onPairOf, firsts, Queued, Between, Spread, Inserted}
 use Rattle.evaluator.proofs.Steps.{since-refl, free-up, kept-refl, gave, gave-stop, ends-eq, stopped-eq, stopped-bind, given-next, given-value, given-held, few-cells}
 use Rattle.evaluator.proofs.Waits.{kept-before, kept-below}
@@ -53,7 +53,7 @@ pub record BetweenNow (F : List ℕ) (S : Setting) (k : ℕ) (Cs Ws : List ℕ) 
   pub fewer : n .cells ≤ m .cells
   pub spends : n .cells + 2 * many ≤ m .cells + 2 * q
   pub long : length C ≡ length Cs
-  pub kept : Kept Ws W top (m .cells + 2 * q) (n .cells)
+  pub kept : RingKept Ws W top (m .cells + 2 * q) (n .cells)
   pub queued : Queued W C (free C n) top q (n .cells) xs
   pub whole : all ≡ insertOn (by S k) f (seq (onto (firsts xs q) (acc :: nil))) n
 
@@ -76,13 +76,13 @@ next-held {W} {C} {n} {top} {xs = xs} q h w l =
     subst (λ u. Rep C n u (nthObj xs (q - 1))) (ap (λ (j : ℕ). valAt W j) (sym e)) (w .here (q - 1) (omega arith) (omega arith))
 
 -- those before it go on to wait
-queue-on : {W W₁ C C₁ : List ℕ} {a a₁ n n₁ top : ℕ} {xs : Objs} (q : ℕ) → 0 < q → n ≤ 4096 → n₁ + 2 ≤ n → a ≤ a₁ → Same C C₁ a → Kept W W₁ ((top + (q - 1)) % 4096) n n₁ → Queued W C a top q n xs → Queued W₁ C₁ a₁ top (q - 1) n₁ xs
+queue-on : {W W₁ C C₁ : List ℕ} {a a₁ n n₁ top : ℕ} {xs : Objs} (q : ℕ) → 0 < q → n ≤ 4096 → n₁ + 2 ≤ n → a ≤ a₁ → Same C C₁ a → RingKept W W₁ ((top + (q - 1)) % 4096) n n₁ → Queued W C a top q n xs → Queued W₁ C₁ a₁ top (q - 1) n₁ xs
 queue-on {C₁ = C₁} {a₁ = a₁} {top = top} {xs} q h l z u s k w = record {
   here = λ j b c. subst (λ v. Rep C₁ a₁ v (nthObj xs j)) (sym (kept-before top (q - 1) k j b (omega arith) (omega arith))) (rep-ext s u (w .here j (omega arith) (omega arith)));
 }
 
 -- and so does what waits below top
-below-on : {W₀ W W₁ : List ℕ} {a n n₁ top : ℕ} (q : ℕ) → 0 < q → n ≤ a → n₁ + 2 ≤ n → Kept W₀ W top (a + 2 * q) n → Kept W W₁ ((top + (q - 1)) % 4096) n n₁ → Kept W₀ W₁ top (a + 2 * (q - 1)) n₁
+below-on : {W₀ W W₁ : List ℕ} {a n n₁ top : ℕ} (q : ℕ) → 0 < q → n ≤ a → n₁ + 2 ≤ n → RingKept W₀ W top (a + 2 * q) n → RingKept W W₁ ((top + (q - 1)) % 4096) n n₁ → RingKept W₀ W₁ top (a + 2 * (q - 1)) n₁
 below-on {top = top} q h l z k k₁ = record { keep = λ d b c. kept-below top (q - 1) k₁ d b (omega arith) (omega arith) ∙ k .keep d b (omega arith) }
 
 module _ {F C W C₁ W₁ : List ℕ} {g t : ℕ} {y : Val} {n : Meter} {r r₁ : Ended} (top q : ℕ) (te : t ≡ (top + (q - 1)) % 4096) (fo : Folded F C W t g y n r C₁ W₁) (e : r ≡ r₁) where

@@ -1,5 +1,5 @@
 -- Pairs made for a form, `{f,x}` and one pair of an insert, in the tables against the definition.
-use Prim.Native.Nat.{ℕ, _+_, _-_, _<_, _%_}
+use Prim.Native.Nat.{ℕ, _+_, _-_, _%_}
 use native.Mathlib.Omega.{arith}
 use mathlib.Core.Path.{_≡_, refl, sym, ap, subst, _∙_}
 use mathlib.Core.List.{List}
@@ -94,6 +94,3 @@ fold-done {C = C} {top = top} {x = u} {m = m} {k} {r = r} ap1 pr h lc pe a b =
 
 pub folded-as : {F C W C₁ W₁ : List ℕ} {top g : ℕ} {v : Val} {m : Meter} {r r′ : Ended} → r ≡ r′ → Folded F C W top g v m r C₁ W₁ → Folded F C W top g v m r′ C₁ W₁
 folded-as {F} {C} {W} {C₁} {W₁} {top} {g} {v} {m} e a = subst (λ r. Folded F C W top g v m r C₁ W₁) e a
-
-pub fold-fell : {F C W C₁ W₁ : List ℕ} {top g : ℕ} {v y : Val} {m k : Meter} {r : Ended} → Folded F C W top g v m r C₁ W₁ → r ≡ Done y k → k .steps < m .steps
-fold-fell s e = folded-as e s .falls .0

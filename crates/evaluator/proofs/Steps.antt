@@ -5,7 +5,7 @@ use mathlib.Core.Path.{_≡_, refl, sym, ap, subst, _∙_}
 use mathlib.Core.List.{List}
 use lib.ListN.{length}
 use Rattle.language.specs.Objects.{Obj, truthOf, isT, isF, neither}
-use Rattle.language.specs.Evaluation.{Out, value, bottom, bind, close, decide}
+use Rattle.language.specs.Evaluation.{Out, bottom, bind, close, decide}
 use Rattle.language.specs.Charging.{stepCharge, cellsCharge, nameCharge}
 use Rattle.language.specs.declared.Meter.{Meter}
 use Rattle.language.specs.declared.Charge.{Charge}
@@ -17,20 +17,20 @@ use Rattle.cells.proofs.Reps.{same-refl, same-trans, rep-ext}
 use Rattle.primitives.specs.declared.Ended.{Ended}
 use Rattle.primitives.specs.declared.Ended.the-variants.{Done, Stop}
 use Rattle.primitives.specs.Ends.{Agree, Gives, Sinks}
-use Rattle.evaluator.specs.Ring.{Kept, Finished, Stopped, fell, ran-out, Ends, ends-done, ends-stop}
-use Rattle.evaluator.specs.Applying.{Setting, by, Given, Applied, Falls}
+use Rattle.evaluator.specs.Ring.{RingKept, Finished, Stopped, fell, ran-out, Ends, ends-done, ends-stop}
+use Rattle.evaluator.specs.Applying.{Setting, Given, Applied, Falls}
 
 -- what a part of a run leaves of what stood before
 pub record Since (C W : List ℕ) (top : ℕ) (m : Meter) (C₁ W₁ : List ℕ) (m₁ : Meter) : Type 0 where
   pub same : Same C C₁ (free C m)
   pub fewer : m₁ .cells ≤ m .cells
   pub long : length C₁ ≡ length C
-  pub kept : Kept W W₁ top (m .cells) (m₁ .cells)
+  pub kept : RingKept W W₁ top (m .cells) (m₁ .cells)
 
 pub free-up : (C C₁ : List ℕ) (m m₁ : Meter) → m₁ .cells ≤ m .cells → length C₁ ≡ length C → free C m ≤ free C₁ m₁
 free-up C C₁ m m₁ l e = omega arith
 
-pub kept-refl : (W : List ℕ) (top a b : ℕ) → Kept W W top a b
+pub kept-refl : (W : List ℕ) (top a b : ℕ) → RingKept W W top a b
 kept-refl W top a b = record { keep = λ d h l. refl }
 
 pub since-refl : (C W : List ℕ) (top : ℕ) (m : Meter) → Since C W top m C W m
@@ -148,6 +148,3 @@ below-taken m k t n r z a b e = omega (arith, cells-granted n m (sym a ∙ b) .s
 
 pub fell-by : {F C W C₁ W₁ : List ℕ} {top i : ℕ} {v y : Val} {m k : Meter} {r : Ended} → Applied F C W top i v m r C₁ W₁ → r ≡ Done y k → k .steps < m .steps
 fell-by a e = applied-as e a .falls .0
-
-pub below-applied : {F C W C₁ W₁ : List ℕ} {top i : ℕ} {v y : Val} {m k : Meter} {r : Ended} (t : ℕ) → Applied F C W top i v m r C₁ W₁ → r ≡ Done y k → 5 * m .steps + 4 ≡ t → 5 * k .steps + 1 < t
-below-applied t a e q = omega (arith, fell-by a e)

@@ -19,7 +19,7 @@ use Rattle.cells.proofs.Ring.{hold-same, hold-other}
 use Rattle.primitives.specs.declared.Ended.{Ended}
 use Rattle.primitives.specs.declared.Ended.the-variants.{Done, Stop}
 use Rattle.primitives.specs.Ends.{Gives, gives-value, gives-bottom, gives-spent}
-use Rattle.evaluator.specs.Ring.{Kept, Finished, Stopped, fell, ran-out, Ends, ends-done, ends-stop}
+use Rattle.evaluator.specs.Ring.{RingKept, Finished, Stopped, fell, ran-out, Ends, ends-done, ends-stop}
 use Rattle.evaluator.specs.Applying.{Taken, Collected}
 use Rattle.primitives.proofs.Ending.{agree-self}
 use Rattle.evaluator.proofs.Steps.{free-up, kept-refl, ends-eq, gives-eq, stopped-eq, stopped-bind, few-cells}
@@ -42,7 +42,7 @@ apart-below : (top q d : ℕ) → 1 ≤ d → d + q < 4096 → ((top + (4096 - d
 apart-below top q d l h e = omega arith
 
 -- what is done at the place of q keeps what waits before it, and what waits below top
-module _ {W W₁ : List ℕ} {n n₁ : ℕ} (top q : ℕ) (k : Kept W W₁ ((top + q) % 4096) n n₁) where
+module _ {W W₁ : List ℕ} {n n₁ : ℕ} (top q : ℕ) (k : RingKept W W₁ ((top + q) % 4096) n n₁) where
   pub kept-before : (i : ℕ) → i < q → q ≤ i + 4096 → q - i + n ≤ 4096 + n₁ → heldAt W₁ (top + i) ≡ heldAt W (top + i)
   kept-before i l h z =
       ap (λ (j : ℕ). valAt W₁ j) (sym (place top q i l h)) ∙ k .keep (q - i) (omega arith) z ∙ ap (λ (j : ℕ). valAt W j) (place top q i l h)
@@ -52,7 +52,7 @@ module _ {W W₁ : List ℕ} {n n₁ : ℕ} (top q : ℕ) (k : Kept W W₁ ((top
       ap (λ (j : ℕ). valAt W₁ j) (sym (place-below top q d l h)) ∙ k .keep (d + q) (omega arith) z ∙ ap (λ (j : ℕ). valAt W j) (place-below top q d l h)
 
 -- one waiting value more, at the ring's place of q: those before it are as they were
-held-on : {W W₁ C C₁ : List ℕ} {n n₁ f f₁ top : ℕ} (q : ℕ) (y : Val) {es : List Obj} → length es ≤ q → q + n ≤ 4096 + n₁ → q < 4096 → f ≤ f₁ → Same C C₁ f → Kept W W₁ ((top + q) % 4096) n n₁ → Held W C f top es → Held (holdAt W₁ ((top + q) % 4096) y) C₁ f₁ top es
+held-on : {W W₁ C C₁ : List ℕ} {n n₁ f f₁ top : ℕ} (q : ℕ) (y : Val) {es : List Obj} → length es ≤ q → q + n ≤ 4096 + n₁ → q < 4096 → f ≤ f₁ → Same C C₁ f → RingKept W W₁ ((top + q) % 4096) n n₁ → Held W C f top es → Held (holdAt W₁ ((top + q) % 4096) y) C₁ f₁ top es
 held-on q y l h z u s k no-held = no-held
 held-on {W} {W₁} {C} {C₁} {f₁ = f₁} {top} q y l h z u s k (a-held {x = x} {xs = es} p r) =
     let i : ℕ = length es in
@@ -60,7 +60,7 @@ held-on {W} {W₁} {C} {C₁} {f₁ = f₁} {top} q y l h z u s k (a-held {x = x
     let q2 = kept-before top q k i l (omega arith) (omega arith) in
     a-held {x = x} {xs = es} (subst (λ w. Rep C₁ f₁ w x) (sym (q1 ∙ q2)) (rep-ext s u p)) (held-on q y (omega arith) h z u s k r)
 
-kept-on : {W₀ W W₁ : List ℕ} {a n n₁ top : ℕ} (q : ℕ) (y : Val) → n ≤ a → n₁ ≤ n → Kept W₀ W top (a + q) n → Kept W W₁ ((top + q) % 4096) n n₁ → Kept W₀ (holdAt W₁ ((top + q) % 4096) y) top (a + (q + 1)) n₁
+kept-on : {W₀ W W₁ : List ℕ} {a n n₁ top : ℕ} (q : ℕ) (y : Val) → n ≤ a → n₁ ≤ n → RingKept W₀ W top (a + q) n → RingKept W W₁ ((top + q) % 4096) n n₁ → RingKept W₀ (holdAt W₁ ((top + q) % 4096) y) top (a + (q + 1)) n₁
 kept-on {W₀} {W} {W₁} {a} {n} {n₁} {top} q y la lb k l = record {
   keep = λ d h z.
       let q1 = hold-other W₁ ((top + q) % 4096) y (top + (4096 - d)) (apart-below top q d h (omega arith)) in
@@ -68,9 +68,6 @@ kept-on {W₀} {W} {W₁} {a} {n} {n₁} {top} q y la lb k l = record {
 }
 
 -- ---- values that wait: `es` wait, the last first, and `rest` makes what follows
-pub prepend : Obj → Out Objs → Out Objs
-prepend y u = bind u (λ ys m. value (y :: ys) m)
-
 onto-more : (y : Obj) (es : List Obj) (u : Out Objs) → bind (bind u (λ ys m. value (y :: ys) m)) (λ ys m. value (onto es ys) m) ≡ bind u (λ ys m. value (onto (y ∷ es) ys) m)
 unfolding onto
 onto-more y es (value ys m) = refl
@@ -88,7 +85,7 @@ pub record Waiting (Cs Ws : List ℕ) (top : ℕ) (m : Meter) (all : Out Objs) (
   pub same : Same Cs C (free Cs m)
   pub fewer : n .cells ≤ m .cells
   pub long : length C ≡ length Cs
-  pub kept : Kept Ws W top (m .cells + q) (n .cells)
+  pub kept : RingKept Ws W top (m .cells + q) (n .cells)
   pub held : q ≤ n .cells → Held W C (free C n) top es
   pub size : length es ≡ q
   pub whole : all ≡ bind (rest n) (λ ys m₁. value (onto es ys) m₁)
@@ -149,7 +146,7 @@ collect-made {C} {C₁ = C₁} {q = q} {p} {v} {n} {k} pe a b g lc =
     }
 
 -- what `collect` does ends it
-collect-ends : {Cs Ws C W C₁ : List ℕ} {top : ℕ} {m : Meter} {e : Out Obj} (n : Meter) (q : ℕ) (r : Ended) → Same Cs C (free Cs m) → n .cells ≤ m .cells → length C ≡ length Cs → length W ≡ 16384 → Kept Ws W top (m .cells + q) (n .cells) → Taken r n q → Gives C n C₁ e r → Ends Cs Ws top m e C₁ W r
+collect-ends : {Cs Ws C W C₁ : List ℕ} {top : ℕ} {m : Meter} {e : Out Obj} (n : Meter) (q : ℕ) (r : Ended) → Same Cs C (free Cs m) → n .cells ≤ m .cells → length C ≡ length Cs → length W ≡ 16384 → RingKept Ws W top (m .cells + q) (n .cells) → Taken r n q → Gives C n C₁ e r → Ends Cs Ws top m e C₁ W r
 collect-ends n q (Stop a k) s l lc w kp t (gives-bottom z g) = ends-stop (fell refl z g)
 collect-ends n q (Stop a k) s l lc w kp t (gives-spent z g) = ends-stop (ran-out refl z g)
 collect-ends {Cs} {C = C} {m = m} n q (Done v k) s l lc w kp t (gives-value {x = x} g) =

@@ -1,15 +1,15 @@
 -- What each function of the evaluator answers, by the definition of the metered run.
-use Prim.Native.Nat.{ℕ, zero, suc, _+_, _-_, _*_, _≤_, _<_, _%_}
+use Prim.Native.Nat.{ℕ, zero, suc, _+_, _-_, _*_, _≤_, _<_}
 use mathlib.Core.Path.{_≡_}
 use mathlib.Core.List.{List, [], _∷_}
 use mathlib.Core.Option.{Option, some, none}
 use lib.ListN.{length, getD}
 use Rattle.language.specs.Objects.{Obj, seq, Objs, nil, _::_, lengthOf, truthOf, isT, isF, nthObj}
-use Rattle.language.specs.Forms.{Form, construct, Forms, Prog, count, mainForm, select, selectRight}
+use Rattle.language.specs.Forms.{Form, Forms, Prog, count, mainForm, select, selectRight}
 use Rattle.language.specs.Bytes.{bytes}
 use Rattle.language.specs.Numbers.{one}
 use Rattle.language.specs.Meanings.{pair}
-use Rattle.language.specs.Evaluation.{Out, value, bottom, bind, Apply, apply, lookup, askName, askCells, chainBy, constructBy, gathered, applyAllOn, insertOn, whileBy, decide}
+use Rattle.language.specs.Evaluation.{Out, bottom, bind, Apply, apply, lookup, askName, askCells, chainBy, constructBy, gathered, applyAllOn, insertOn, whileBy, decide}
 use Rattle.language.specs.Accepted.{IsName}
 use Rattle.language.specs.declared.Meter.{Meter}
 use Rattle.language.specs.declared.Val.{Val}
@@ -79,7 +79,7 @@ pub record Chained (F C W : List ℕ) (top j : ℕ) (v : Val) (m : Meter) (r : E
   pub means : (S : Setting) (k : ℕ) (fs : Forms) (x : Obj) → LastAt F S j fs → Given F S k C W m v x → Ends C W top m (chainBy (by S k) fs x m) C′ W′ r
 
 -- a construction of `many` parts from j on
-pub record Built (F C W : List ℕ) (top j many : ℕ) (v : Val) (m : Meter) (r : Ended) (C′ W′ : List ℕ) : Type 0 where
+pub record Constructed (F C W : List ℕ) (top j many : ℕ) (v : Val) (m : Meter) (r : Ended) (C′ W′ : List ℕ) : Type 0 where
   pub sinks : Sinks r m
   pub means : (S : Setting) (k : ℕ) (fs : Forms) (x : Obj) → count fs ≡ many → AllAt F S j fs → Given F S k C W m v x → Ends C W top m (bind (constructBy (by S k) fs x m) gathered) C′ W′ r
 
@@ -131,15 +131,15 @@ Lessens (Says b k) m = (k .steps < m .steps) × (k .names ≡ m .names)
 Lessens (AskStop n k) m = Unit {0}
 
 -- what a question says, where e is the outcome of its application
-pub data Answers (C W : List ℕ) (top : ℕ) (m : Meter) (e : Out Obj) (C′ W′ : List ℕ) : Asked → Type 0 where
-  says-yes : {v : Val} {k : Meter} (u : Finished C W top m e v k C′ W′) → truthOf (u .obj) ≡ isT → Answers C W top m e C′ W′ (Says 1 k)
-  says-no : {v : Val} {k : Meter} (u : Finished C W top m e v k C′ W′) → truthOf (u .obj) ≡ isF → Answers C W top m e C′ W′ (Says 0 k)
-  says-stop : {n : ℕ} {k : Meter} → ((onT onF : Meter → Out Obj) → Stopped (bind e (λ b m₁. decide b m₁ onT onF)) n k) → Answers C W top m e C′ W′ (AskStop n k)
+pub data QuestionSays (C W : List ℕ) (top : ℕ) (m : Meter) (e : Out Obj) (C′ W′ : List ℕ) : Asked → Type 0 where
+  says-yes : {v : Val} {k : Meter} (u : Finished C W top m e v k C′ W′) → truthOf (u .obj) ≡ isT → QuestionSays C W top m e C′ W′ (Says 1 k)
+  says-no : {v : Val} {k : Meter} (u : Finished C W top m e v k C′ W′) → truthOf (u .obj) ≡ isF → QuestionSays C W top m e C′ W′ (Says 0 k)
+  says-stop : {n : ℕ} {k : Meter} → ((onT onF : Meter → Out Obj) → Stopped (bind e (λ b m₁. decide b m₁ onT onF)) n k) → QuestionSays C W top m e C′ W′ (AskStop n k)
 
 -- the question at h
 pub record Questioned (F C W : List ℕ) (top h : ℕ) (v : Val) (m : Meter) (r : Asked) (C′ W′ : List ℕ) : Type 0 where
   pub falls : Lessens r m
-  pub means : (S : Setting) (k : ℕ) (p : Form) (x : Obj) → At F S h p → Given F S k C W m v x → Answers C W top m (by S k p x m) C′ W′ r
+  pub means : (S : Setting) (k : ℕ) (p : Form) (x : Obj) → At F S h p → Given F S k C W m v x → QuestionSays C W top m (by S k p x m) C′ W′ r
 
 -- which form a condition chooses, whose question is at h and says b
 pub record Branch (F : List ℕ) (h b j : ℕ) : Type 0 where
@@ -161,7 +161,7 @@ abbrev pub nameBy : Apply → Option Form → Obj → Meter → Out Obj
 nameBy ap b x m = elim b [ none ↦ bottom m | some f ↦ askName m (λ m₁. ap f x m₁) ]
 
 -- a name whose body's record and one is d, 0 if it is undefined
-pub record Named (F C W : List ℕ) (top d : ℕ) (v : Val) (m : Meter) (r : Ended) (C′ W′ : List ℕ) : Type 0 where
+pub record NameApplied (F C W : List ℕ) (top d : ℕ) (v : Val) (m : Meter) (r : Ended) (C′ W′ : List ℕ) : Type 0 where
   pub sinks : Sinks r m
   pub means : (S : Setting) (k : ℕ) (w : List ℕ) (x : Obj) → IsName w → d ≡ S .root w → Given F S k C W m v x → Ends C W top m (nameBy (by S k) (lookup w (S .prog)) x m) C′ W′ r
 
@@ -194,7 +194,7 @@ pub record Spread (C W : List ℕ) (top k : ℕ) (v r : Val) (W′ : List ℕ) :
   pub others : (d : ℕ) → 1 ≤ d → d + k ≤ 4096 → heldAt W′ (top + (4096 - d)) ≡ heldAt W (top + (4096 - d))
 
 -- T holds the first 8,192 numbers of F, and 0 past its end
-pub record Copied (F T : List ℕ) : Type 0 where
+pub record FormsCopied (F T : List ℕ) : Type 0 where
   pub same : (j : ℕ) → j < 8192 → getD T j 0 ≡ getD F j 0
 
 -- A whole run: main, whose body's record and one is d, by the definition with the steps as its fuel.

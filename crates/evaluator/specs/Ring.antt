@@ -1,22 +1,21 @@
 -- What an application leaves of the cells and of the ring of waiting values.
-use Prim.Native.Nat.{ℕ, zero, suc, _+_, _-_, _*_, _≤_, _<_, _%_}
+use Prim.Native.Nat.{ℕ, _+_, _-_, _≤_}
 use mathlib.Core.Path.{_≡_}
-use mathlib.Core.List.{List, [], _∷_}
+use mathlib.Core.List.{List}
 use lib.ListN.{length}
 use Rattle.language.specs.Objects.{Obj}
 use Rattle.language.specs.Evaluation.{Out, value, bottom, spent, Spent}
 use Rattle.language.specs.Answers.{spentNumber}
 use Rattle.language.specs.declared.Meter.{Meter}
 use Rattle.language.specs.declared.Val.{Val}
-use Rattle.cells.specs.Cells.{Rep, Same, Room, free}
-use Rattle.cells.specs.Parts.{heldAt, holdAt}
+use Rattle.cells.specs.Parts.{heldAt}
 use Rattle.primitives.specs.declared.Ended.{Ended}
 use Rattle.primitives.specs.declared.Ended.the-variants.{Done, Stop}
 use Rattle.primitives.specs.Ends.{Made, Agree}
 
 -- A waiting value at a distance d below the top is kept, unless with the cells that were made, a less b, it is more than 4,096:
 -- then the construction or insert that it waits for can't complete.
-pub record Kept (W W′ : List ℕ) (top a b : ℕ) : Type 0 where
+pub record RingKept (W W′ : List ℕ) (top a b : ℕ) : Type 0 where
   pub keep : (d : ℕ) → 1 ≤ d → d + a ≤ 4096 + b → heldAt W′ (top + (4096 - d)) ≡ heldAt W (top + (4096 - d))
 
 -- a value: the cells and the waiting values that were there are kept
@@ -25,7 +24,7 @@ pub record Finished (C W : List ℕ) (top : ℕ) (m : Meter) (e : Out Obj) (v : 
   pub is : e ≡ value obj m′
   pub made : Made C m obj v m′ C′
   pub ring : length W′ ≡ 16384
-  pub kept : Kept W W′ top (m .cells) (m′ .cells)
+  pub kept : RingKept W W′ top (m .cells) (m′ .cells)
 
 -- bottom or a spent budget, with the same steps and cells left
 pub data Stopped {A : Type 0} (e : Out A) (n : ℕ) (m′ : Meter) : Type 0 where

@@ -1,6 +1,6 @@
 // Applications of linked forms: f holds the forms, c the cells, w the ring of values that wait, of which those from top on
 // are free. Each function calls the others with fewer steps left.
-ghost use Rattle.evaluator.specs.Applying.{Applied, Chained, Slotted, Built, Mapped, Folded, Between, Inserted, Questioned, Repeated, Bound, Chosen, Named};
+ghost use Rattle.evaluator.specs.Applying.{Applied, Chained, Slotted, Constructed, Mapped, Folded, Between, Inserted, Questioned, Repeated, Bound, Chosen, NameApplied};
 use crate::alone::leaf;
 use crate::records::arity;
 use crate::records::branch;
@@ -142,7 +142,7 @@ pub fn construct(
     v: Val,
     m: Meter,
 ) -> Ended
-    ensures { λ r. ⌜ Built (now (f .entry)) (now (c .entry)) (now (w .entry)) top h many v m r (now (c .exit)) (now (w .exit)) ⌝ }
+    ensures { λ r. ⌜ Constructed (now (f .entry)) (now (c .entry)) (now (w .entry)) top h many v m r (now (c .exit)) (now (w .exit)) ⌝ }
 {
     let mut j = h;
     let mut q: u32 = 0;
@@ -379,7 +379,7 @@ pub fn name(
     v: Val,
     m: Meter,
 ) -> Ended
-    ensures { λ r. ⌜ Named (now (f .entry)) (now (c .entry)) (now (w .entry)) top d v m r (now (c .exit)) (now (w .exit)) ⌝ }
+    ensures { λ r. ⌜ NameApplied (now (f .entry)) (now (c .entry)) (now (w .entry)) top d v m r (now (c .exit)) (now (w .exit)) ⌝ }
 {
     if d == 0 {
         return Ended::Stop(21, m);

@@ -3,12 +3,12 @@ ghost use mathlib.Core.Path.{_≡_};
 ghost use Prim.Native.Nat.{_+_, _%_};
 ghost use Rattle.tables.specs.Tables.{field};
 ghost use Rattle.evaluator.specs.Applying.{Branch};
-ghost use Rattle.linker.specs.Linked.{kindAt, linkAt, constantAt};
+ghost use Rattle.linker.specs.Linked.{linkedKindAt, linkAt, constantAt};
 use language::Val;
 
 // The kind of the form at i: 12 for all constants, 16 for all of `{f,x}`.
 pub fn kind(f: &[u32; 8192], i: u32) -> u32
-    ensures { λ r. ⌜ r ≡ kindAt (now (f .entry)) i ⌝ }
+    ensures { λ r. ⌜ r ≡ linkedKindAt (now (f .entry)) i ⌝ }
 {
     let k = tables::at(f, i as usize * 4) % 32;
     if k < 12 {

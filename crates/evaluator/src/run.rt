@@ -1,7 +1,7 @@
 // A whole run.
 ghost use mathlib.Core.Path.{_≡_};
 ghost use lib.ListN.{length};
-ghost use Rattle.evaluator.specs.Applying.{Ran, Copied};
+ghost use Rattle.evaluator.specs.Applying.{Ran, FormsCopied};
 use crate::cycle::name;
 use language::Charge;
 use language::Meter;
@@ -23,7 +23,7 @@ pub fn evaluate(forms: &[u32], c: &mut [u32], root: u32, v: Val, m: Meter) -> En
 
 // The first 8,192 numbers of the forms; past their end 0.
 fn copied(forms: &[u32]) -> [u32; 8192]
-    ensures { λ r. ⌜ Copied (now (forms .entry)) r ⌝ }
+    ensures { λ r. ⌜ FormsCopied (now (forms .entry)) r ⌝ }
 {
     let mut f = empty();
     let mut i: usize = 0;

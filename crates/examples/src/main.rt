@@ -2,7 +2,7 @@
 // budgets, the program and the object. Then the same of data/inputs.cases, where inputs of every shape stand.
 ghost use Prim.Native.Nat.{_≤_};
 ghost use lib.ListN.{length};
-ghost use Rattle.examples.specs.Ahead.{Ahead};
+ghost use Rattle.examples.specs.Ahead.{Further};
 
 mod inputs;
 mod printing;
@@ -10,7 +10,7 @@ mod printing;
 // The place behind the line that starts at `from`.
 fn behind_line(s: &[u8], from: usize) -> usize
     requires { ⌜ from ≤ length (now s) ⌝ }
-    ensures { λ r. ⌜ Ahead from (length (now (s .entry))) r ⌝ }
+    ensures { λ r. ⌜ Further from (length (now (s .entry))) r ⌝ }
 {
     let mut i = from;
     while i < s.len() {
@@ -25,7 +25,7 @@ fn behind_line(s: &[u8], from: usize) -> usize
 // Prints the example that starts at `from`, and gives the place behind it.
 fn print_example(s: &[u8], from: usize) -> usize
     requires { ⌜ from ≤ length (now s) ⌝ }
-    ensures { λ r. ⌜ Ahead from (length (now (s .entry))) r ⌝ }
+    ensures { λ r. ⌜ Further from (length (now (s .entry))) r ⌝ }
 {
     let budgets = behind_line(s, from);
     let program = behind_line(s, budgets);

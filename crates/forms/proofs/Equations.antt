@@ -17,7 +17,7 @@ use Rattle.forms.specs.declared.CommaRead.the-variants as C
 use Rattle.forms.specs.declared.DotRead.{DotRead}
 use Rattle.forms.specs.declared.DotRead.the-variants as D
 use Rattle.forms.specs.Readings.{Dotted, dot-read, no-dot, Separated, comma-read, bracket-read, neither-read}
-use Rattle.forms.specs.Readers.{objectAt, partAt, formAt, partsAt, formsAt, plainAt, constantAt, prefixForm, prefixAt, constructAt, boundAt, buAt, roundAt, closedAt, whileAt, both, branchesAt, conditionAt, isOpening, isArrow}
+use Rattle.forms.specs.Readers.{objectAt, partAt, formAt, partsAt, formsAt, plainAt, constantRead, prefixForm, prefixAt, constructAt, boundAt, buAt, roundAt, closedAt, whileAt, both, branchesAt, conditionAt, isOpening, isArrow}
 
 -- ---- one step behind another
 module _ {A B C : Type 0} where
@@ -115,8 +115,8 @@ module _ (s : List ℕ) (at room p b : ℕ) (l : at ≤ length s) (p-is : p ≡ 
     unfolding readPart constructAt formsAt
     part-construct-is h = part-once s at room l ∙ rw (byte, h, ← p-is) (opened (λ a. andThen (formsAt s a (room - 1)) (λ fs e. got (construct fs) e)))
 
-    pub part-constant-is : b ≡ 37 → partAt s at room ≡ constantAt s (p + 1) (room - 1)
-    unfolding readPart constantAt objectAt
+    pub part-constant-is : b ≡ 37 → partAt s at room ≡ constantRead s (p + 1) (room - 1)
+    unfolding readPart constantRead objectAt
     part-constant-is h = part-once s at room l ∙ rw (byte, h, ← p-is) (opened (λ a. andThen (objectAt s a (room - 1)) (λ x e. got (constant x) e)))
 
     pub part-insert-is : b ≡ 47 → partAt s at room ≡ prefixAt 7 s (p + 1) (room - 1)
@@ -189,9 +189,6 @@ module _ (s : List ℕ) (e : ℕ) {q : CommaRead} (f : Form) (r : ℕ → Got Fo
 
 -- ---- behind a first form: p is the next place and b its byte
 module _ (s : List ℕ) (e p b : ℕ) (p-is : p ≡ placeFrom s e) (b-is : b ≡ byteAt s p) where
-  next : byteAt s (placeFrom s e) ≡ b
-  next = ap (λ (q : ℕ). byteAt s q) (sym p-is) ∙ sym b-is
-
   module _ (f : Form) where
     -- behind the first form in `( )`
     module _ (room : ℕ) where

@@ -12,7 +12,7 @@ use Rattle.language.specs.declared.Val.{Val}
 use Rattle.language.specs.Objects.{Obj, int, symbol, seq}
 use Rattle.language.specs.Forms.{Form, insert, applyAll, bu, constantCells}
 use Rattle.language.specs.Tokens.{byteAt}
-use Rattle.language.specs.Reading.{Got, mark}
+use Rattle.language.specs.Reading.{Got}
 use Rattle.theorems.proofs.Refusals.{mark-within}
 use Rattle.tables.specs.Tables.{recordPut}
 use Rattle.lexer.specs.Readings.{Skipped}
@@ -23,7 +23,7 @@ use Rattle.objects.specs.declared.ObjectRead.the-variants as O
 use Rattle.forms.specs.declared.Upto.{Upto}
 use Rattle.forms.specs.declared.FormRead.{FormRead}
 use Rattle.forms.specs.declared.FormRead.the-variants as F
-use Rattle.forms.specs.Readers.{partAt, constantAt, prefixForm, prefixAt, constructAt, boundAt, buAt, roundAt, isOpening}
+use Rattle.forms.specs.Readers.{partAt, constantRead, prefixForm, prefixAt, constructAt, boundAt, buAt, roundAt, isOpening}
 use Rattle.forms.specs.Readings.{Ready, Run, Laid, ObjectMet, FormMet, form-read, form-refused, BuPut, PlainMet}
 use Rattle.forms.proofs.Laying.{run-then, run-under, run-as}
 use Rattle.forms.proofs.Equations.{part-plain-is, part-deep-is, part-construct-is, part-constant-is, part-insert-is, part-apply-is, part-bu-is, part-round-is}
@@ -84,7 +84,7 @@ module _ (s : List ℕ) (at room : ℕ) {n c p b : ℕ} (a : Ready s at n c) (i 
     pub part-construct : b ≡ 91 → FormMet n c t u r t′ u′ (constructAt s (p + 1) (room - 1)) → FormMet n c t u r t′ u′ (partAt s at room)
     part-construct e m = rw (part-construct-is s at room p b (a .inside) (i .is) h (omega arith) e) m
 
-    pub part-constant : b ≡ 37 → FormMet n c t u r t′ u′ (constantAt s (p + 1) (room - 1)) → FormMet n c t u r t′ u′ (partAt s at room)
+    pub part-constant : b ≡ 37 → FormMet n c t u r t′ u′ (constantRead s (p + 1) (room - 1)) → FormMet n c t u r t′ u′ (partAt s at room)
     part-constant e m = rw (part-constant-is s at room p b (a .inside) (i .is) h (omega arith) e) m
 
     pub part-insert : b ≡ 47 → FormMet n c t u r t′ u′ (prefixAt 7 s (p + 1) (room - 1)) → FormMet n c t u r t′ u′ (partAt s at room)

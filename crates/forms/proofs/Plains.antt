@@ -22,7 +22,7 @@ use Rattle.theorems.proofs.Outcomes.{MeetsWord, meetsWord}
 use Rattle.theorems.proofs.Refusals.{mark-within}
 use Rattle.theorems.proofs.JudgedWords.{IsPartIn, judged-part}
 use Rattle.tables.specs.Tables.{recordPut}
-use Rattle.lexer.specs.Readings.{Skipped, Sized}
+use Rattle.lexer.specs.Readings.{Skipped, WordSized}
 use Rattle.lexer.specs.Vocabulary.{opCode}
 use Rattle.lexer.specs.Judgements.{partJudged}
 use Rattle.lexer.specs.declared.PartJudged.{PartJudged}
@@ -41,7 +41,7 @@ use Rattle.forms.specs.declared.DotRead.the-variants as D
 use Rattle.forms.specs.declared.TestRead.the-variants as T
 use Rattle.forms.specs.declared.FormRead.{FormRead}
 use Rattle.forms.specs.declared.FormRead.the-variants as F
-use Rattle.forms.specs.Readers.{objectAt, plainAt, constantAt, boundAt, isOpening, isArrow}
+use Rattle.forms.specs.Readers.{objectAt, plainAt, constantRead, boundAt, isOpening, isArrow}
 use Rattle.forms.specs.Readings.{Marked, mark-read, mark-refused, Dotted, dot-read, no-dot, Separated, comma-read, bracket-read, neither-read, Tested, Run, Laid, ObjectMet, object-read, object-refused, FormMet, form-read, form-refused, PlainPut, PlainMet}
 use Rattle.forms.proofs.Laying.{run-none, run-record, run-as}
 use Rattle.forms.proofs.Small.{Plain, a-word, a-name, neither, part-plain}
@@ -171,16 +171,16 @@ unfolding encodeForm constantsFrom
 constant-laid x h l e = record { records = run-record (rw h at e); cells = l }
 
 module _ (s : List ℕ) (at room : ℕ) {c : ℕ} {u : List ℕ} {r : ObjectRead} {u₁ : List ℕ} (h : ObjectReading s at room u c r u₁) where
-  pub constant-stops : {n k p : ℕ} {t t′ u′ : List ℕ} → r ≡ O.No k p → FormMet n c t u (F.No k p) t′ u′ (constantAt s at room)
-  unfolding constantAt
+  pub constant-stops : {n k p : ℕ} {t t′ u′ : List ℕ} → r ≡ O.No k p → FormMet n c t u (F.No k p) t′ u′ (constantRead s at room)
+  unfolding constantRead
   constant-stops e = rw (object-none s at room h e) (form-refused refl)
 
   module _ {v : Val} {e d : ℕ} (q : r ≡ O.Got v e d) (l : length u₁ ≡ length u) where
     pub constant-tag-fits : Fits w32 (12 + v .tag)
     constant-tag-fits = let o = object-got (object-met s at room h l) q in let w = tag-few c (o .object) in let z : v .tag ≡ valOf c (o .object) .tag = ap (λ (x : Val). x .tag) (o .value) in record { fits = omega arith }
 
-    pub constant-is : {n : ℕ} {t t₂ : List ℕ} {r₂ : FormRead} → PlainPut n d e (12 + v .tag) (v .word) t r₂ t₂ → FormMet n c t u r₂ t₂ u₁ (constantAt s at room)
-    unfolding constantAt
+    pub constant-is : {n : ℕ} {t t₂ : List ℕ} {r₂ : FormRead} → PlainPut n d e (12 + v .tag) (v .word) t r₂ t₂ → FormMet n c t u r₂ t₂ u₁ (constantRead s at room)
+    unfolding constantRead
     constant-is w = let o = object-got (object-met s at room h l) q in rw (o .is) (form-read (w .is) refl (constant-laid (o .object) (o .value) (o .laid) (w .table)))
 
 -- ---- read_bound
@@ -281,7 +281,7 @@ not-judged neither e = cc
 plain-laid : (f : Form) {kind w n c : ℕ} {t u t′ : List ℕ} → Plainly f kind w → t′ ≡ recordPut t n kind 0 (lowOf w) (highOf w) → Laid (encodeForm c f) (constantsFrom c f) n c t u (n + 1) c t′ u
 plain-laid f {c = c} q e = record { records = run-as (sym (q .records c)) (run-record e); cells = run-as (sym (q .cells c)) run-none }
 
-module _ {s : List ℕ} {p k : ℕ} {j : PartJudged} (i : Sized s p k) (h : j ≡ partJudged (judgePart (slice p (p + k) s))) where
+module _ {s : List ℕ} {p k : ℕ} {j : PartJudged} (i : WordSized s p k) (h : j ≡ partJudged (judgePart (slice p (p + k) s))) where
   judged-here : partJudged (judgePart (wordAt s p)) ≡ j
   judged-here = ap (λ (x : ℕ). partJudged (judgePart (slice p (p + x) s))) (sym (i .is)) ∙ sym h
 

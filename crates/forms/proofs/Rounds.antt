@@ -16,7 +16,7 @@ use Rattle.forms.specs.declared.TestRead.the-variants as T
 use Rattle.forms.specs.declared.FormRead.{FormRead}
 use Rattle.forms.specs.declared.FormRead.the-variants as F
 use Rattle.forms.specs.Readers.{formAt, closedAt, roundAt, whileAt, Branches, both, branchesAt, conditionAt}
-use Rattle.forms.specs.Readings.{Ready, Marked, testOf, Passed, Tested, Laid, FormMet, form-read, form-refused, BranchesMet, branches-read, branches-refused, Continued}
+use Rattle.forms.specs.Readings.{Ready, Marked, testRead, Passed, Tested, Laid, FormMet, form-read, form-refused, BranchesMet, branches-read, branches-refused, Continued}
 use Rattle.forms.proofs.Laying.{run-then, run-moved, run-as}
 use Rattle.forms.proofs.Answers.{GotForm, form-got, form-no, mark-got, mark-no, mark-passed, After, form-after}
 use Rattle.forms.proofs.Chains.{cells-at}
@@ -137,22 +137,22 @@ module _ (s : List ℕ) (at room : ℕ) {n c : ℕ} {t u t₁ u₁ : List ℕ} {
   round-stops e = rw (form-no m e) (form-refused refl)
 
   module _ {x : Upto} {q : TestRead} (e : r ≡ F.Got x) (i : Tested s (x .next) q) where
-    tested : roundAt s at room ≡ testOf s room (form-got m e .form) q
+    tested : roundAt s at room ≡ testRead s room (form-got m e .form) q
     unfolding roundAt
     tested = ap (λ (g : Got Form). andThen g (λ f e. afterTest s f e (λ a. formAt s a room))) (form-got m e .is) ∙ i .is (form-got m e .form) room
 
     pub round-no : {k p : ℕ} {t′ u′ : List ℕ} → q ≡ T.No k p → FormMet n c t u (F.No k p) t′ u′ (roundAt s at room)
-    round-no g = rw (tested ∙ ap (λ (w : TestRead). testOf s room (form-got m e .form) w) g) (form-refused refl)
+    round-no g = rw (tested ∙ ap (λ (w : TestRead). testRead s room (form-got m e .form) w) g) (form-refused refl)
 
     module _ {a : ℕ} where
       pub round-is : q ≡ T.Closed a → FormMet n c t u (F.Got (record { next = a; forms = x .forms; cells = x .cells })) t₁ u₁ (roundAt s at room)
-      round-is g = rw (tested ∙ ap (λ (w : TestRead). testOf s room (form-got m e .form) w) g) (form-read refl refl (form-got m e .laid))
+      round-is g = rw (tested ∙ ap (λ (w : TestRead). testRead s room (form-got m e .form) w) g) (form-read refl refl (form-got m e .laid))
 
       pub round-while : {r₂ : FormRead} {t₂ u₂ : List ℕ} → q ≡ T.While a → Continued (whileAt s a room) n (x .forms) (x .cells) t₁ u₁ r₂ t₂ u₂ → FormMet n c t u r₂ t₂ u₂ (roundAt s at room)
-      round-while g k = let y = form-got m e in rw (tested ∙ ap (λ (w : TestRead). testOf s room (form-got m e .form) w) g) (k .means (y .form) c t u (y .laid))
+      round-while g k = let y = form-got m e in rw (tested ∙ ap (λ (w : TestRead). testRead s room (form-got m e .form) w) g) (k .means (y .form) c t u (y .laid))
 
       pub round-condition : {r₂ : FormRead} {t₂ u₂ : List ℕ} → q ≡ T.Condition a → Continued (conditionAt s a room) n (x .forms) (x .cells) t₁ u₁ r₂ t₂ u₂ → FormMet n c t u r₂ t₂ u₂ (roundAt s at room)
-      round-condition g k = let y = form-got m e in rw (tested ∙ ap (λ (w : TestRead). testOf s room (form-got m e .form) w) g) (k .means (y .form) c t u (y .laid))
+      round-condition g k = let y = form-got m e in rw (tested ∙ ap (λ (w : TestRead). testRead s room (form-got m e .form) w) g) (k .means (y .form) c t u (y .laid))
 
 module _ (s : List ℕ) (at room : ℕ) {n c : ℕ} {t u t₁ u₁ : List ℕ} {r : FormRead} {x : Upto} (b : Ready s at (n + 1) c) (m : FormMet n c t u r t₁ u₁ (formAt s at room)) (e : r ≡ F.Got x) where
   behind : After s at x

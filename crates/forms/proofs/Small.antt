@@ -13,7 +13,7 @@ use Rattle.language.specs.Words.{Op, ops}
 use Rattle.language.specs.Forms.{Form, word, name, construct, constant, insert, applyAll, bu, condition, while, Forms, _&_, Word, op, formsIn, formsInAll, constantCells, constantCellsAll}
 use Rattle.language.specs.Tokens.{isDigit, isLetter, byteAt, span, placeFrom, sizeAt}
 use Rattle.language.specs.Judging.{Judged, is, isNot, onJudged, isNameByte, judgeWord, isSelector, findOp, judgeSelector, wordForm, judgePart}
-use Rattle.language.specs.Reading.{Got, got, no, andThen, wordAt, asJudged, mark, readObj, afterTest, afterPart, afterParts, afterForm, readForm, readParts, readForms, readPart}
+use Rattle.language.specs.Reading.{Got, got, andThen, wordAt, asJudged, mark, readObj, afterTest, afterPart, afterParts, afterForm, readForm, readParts, readForms, readPart}
 use Rattle.theorems.proofs.Outcomes.{meets, refusesBy, Meets, refuses, meets-then, meets-cond, meets-refused, meets-mark, meets-opens, place-on, word-long}
 use Rattle.theorems.proofs.ObjectsRead.{ObjectIn, object-in}
 use Rattle.theorems.proofs.WrittenCells.{object-cells}

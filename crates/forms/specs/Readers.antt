@@ -30,8 +30,8 @@ unfoldable pub plainAt : List ℕ → ℕ → Got Form
 plainAt s p = asJudged s p (judgePart (wordAt s p))
 
 -- ---- behind a mark that opens
-unfoldable pub constantAt : List ℕ → ℕ → ℕ → Got Form
-constantAt s at room = andThen (objectAt s at room) (λ x e. got (constant x) e)
+unfoldable pub constantRead : List ℕ → ℕ → ℕ → Got Form
+constantRead s at room = andThen (objectAt s at room) (λ x e. got (constant x) e)
 
 -- kind 7 is insert, kind 8 apply-to-all
 unfoldable pub prefixForm : ℕ → Form → Form

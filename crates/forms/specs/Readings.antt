@@ -4,7 +4,7 @@ use mathlib.Core.Path.{_≡_}
 use Prim.Native.Char.{code}
 use mathlib.Core.List.{List, _++_}
 use lib.ListN.{length}
-use Rattle.language.specs.Numbers.{programLimit, one}
+use Rattle.language.specs.Numbers.{programLimit}
 use Rattle.language.specs.Objects.{Obj}
 use Rattle.language.specs.Forms.{Form, Forms, count, constantCells}
 use Rattle.language.specs.Tokens.{byteAt, placeFrom}
@@ -55,11 +55,11 @@ pub data Separated (s : List ℕ) (at : ℕ) (r : CommaRead) : Type 0 where
   neither-read : (byteAt s (placeFrom s at) ≡ code "," → ⊥) → (byteAt s (placeFrom s at) ≡ code "]" → ⊥) → r ≡ C.No (refusalOf (wordAt s (placeFrom s at))) (placeFrom s at) → Separated s at r
 
 -- what is read behind the first form f in `( )`, by the answer
-abbrev pub testOf : List ℕ → ℕ → Form → TestRead → Got Form
-testOf s room f (T.Closed a) = got f a
-testOf s room f (T.While a) = whileAt s a room f
-testOf s room f (T.Condition a) = conditionAt s a room f
-testOf s room f (T.No k p) = no k p
+abbrev pub testRead : List ℕ → ℕ → Form → TestRead → Got Form
+testRead s room f (T.Closed a) = got f a
+testRead s room f (T.While a) = whileAt s a room f
+testRead s room f (T.Condition a) = conditionAt s a room f
+testRead s room f (T.No k p) = no k p
 
 -- some byte was passed
 pub record Passed (s : List ℕ) (at a : ℕ) : Type 0 where
@@ -67,7 +67,7 @@ pub record Passed (s : List ℕ) (at a : ℕ) : Type 0 where
   pub inside : a ≤ length s
 
 pub record Tested (s : List ℕ) (at : ℕ) (r : TestRead) : Type 0 where
-  pub is : (f : Form) (room : ℕ) → afterTest s f at (λ a. formAt s a room) ≡ testOf s room f r
+  pub is : (f : Form) (room : ℕ) → afterTest s f at (λ a. formAt s a room) ≡ testRead s room f r
   pub loops : (a : ℕ) → r ≡ T.While a → Passed s at a
   pub branches : (a : ℕ) → r ≡ T.Condition a → Passed s at a
 

@@ -1,6 +1,6 @@
 // The marks of a program's text.
 ghost use mathlib.Core.Path.{_≡_};
-ghost use Prim.Native.Nat.{_≤_, _<_};
+ghost use Prim.Native.Nat.{_≤_};
 ghost use lib.ListN.{length};
 ghost use Rattle.forms.specs.Readers.{isOpening, isArrow};
 ghost use Rattle.forms.specs.Readings.{Marked, Dotted, Separated, Tested};

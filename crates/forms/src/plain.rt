@@ -1,8 +1,7 @@
 // Parts that hold no form: words, names and constants; and the object of `{f,x}`.
-ghost use mathlib.Core.Path.{_≡_};
 ghost use Prim.Native.Nat.{_+_, _≤_, _<_};
 ghost use lib.ListN.{length};
-ghost use Rattle.forms.specs.Readers.{boundAt, constantAt};
+ghost use Rattle.forms.specs.Readers.{boundAt, constantRead};
 ghost use Rattle.forms.specs.Readings.{Ready, ObjectMet, FormMet, PlainPut, BuPut, PlainMet};
 use super::FormRead;
 use super::MarkRead;
@@ -79,7 +78,7 @@ pub fn read_constant(
     c: u32,
 ) -> FormRead
     requires { ⌜ Ready (now s) at (n + 1) c ⌝ }
-    ensures { λ r. ⌜ FormMet n c (now (t .entry)) (now (u .entry)) r (now (t .exit)) (now (u .exit)) (constantAt (now (s .entry)) at room) ⌝ }
+    ensures { λ r. ⌜ FormMet n c (now (t .entry)) (now (u .entry)) r (now (t .exit)) (now (u .exit)) (constantRead (now (s .entry)) at room) ⌝ }
 {
     match objects::read_object(s, at, room, u, c) {
         ObjectRead::No(number, place) => FormRead::No(number, place),

@@ -1,10 +1,10 @@
 -- The records and the constants of forms, of programs and of definitions, one behind the other.
-use Prim.Native.Nat.{ℕ, zero, _+_}
-use mathlib.Core.Path.{_≡_, refl, ap, sym, _∙_}
+use Prim.Native.Nat.{ℕ, _+_}
+use mathlib.Core.Path.{_≡_, ap}
 use mathlib.Core.List.{List, [], _∷_, _++_, append-assoc, append-nil}
 use native.Mathlib.Nat.{add-zero}
 use native.Mathlib.Omega.{arith}
-use Rattle.language.specs.Forms.{Form, Forms, stop, _&_, _+&_, Def, Prog, formsIn, formsOf, constantCells, constantCellsAll, programCells}
+use Rattle.language.specs.Forms.{Form, Forms, stop, _&_, _+&_, Prog, formsIn, formsOf, constantCells, constantCellsAll, programCells}
 use Rattle.language.specs.Reading.{Placed, programOf}
 use Rattle.formtable.specs.Encoding.{encodeForm, encodeForms, constantsFrom, constantsFromAll, encodeProgram, programConstants, encodeDefinitions}
 

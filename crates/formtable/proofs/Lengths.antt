@@ -4,11 +4,11 @@ use mathlib.Core.Path.{_≡_, refl}
 use mathlib.Core.List.{List, [], _∷_, _++_}
 use native.Mathlib.Omega.{arith}
 use lib.ListN.{length, length-append}
-use Rattle.language.specs.Forms.{Form, word, name, chain, construct, constant, insert, applyAll, bu, condition, while, Forms, stop, _&_, Word, select, selectRight, op, Def, Prog, formsIn, formsInAll, formsOf, constantCells, constantCellsAll, programCells}
+use Rattle.language.specs.Forms.{Form, word, name, chain, construct, constant, insert, applyAll, bu, condition, while, Forms, stop, _&_, Word, select, selectRight, op, Prog, formsIn, formsInAll, formsOf, constantCells, constantCellsAll, programCells}
 use Rattle.language.specs.Reading.{Placed}
-use Rattle.cells.specs.Encoding.{valOf, cellsFrom}
+use Rattle.cells.specs.Encoding.{cellsFrom}
 use Rattle.cells.proofs.Encoded.{length-cells}
-use Rattle.formtable.specs.Encoding.{wordRecord, buRecord, encodeForm, encodeForms, constantsFrom, constantsFromAll, encodeProgram, programConstants, encodeDefinitions}
+use Rattle.formtable.specs.Encoding.{wordRecord, encodeForm, encodeForms, constantsFrom, constantsFromAll, encodeProgram, programConstants, encodeDefinitions}
 
 length-word : (w : Word) → length (wordRecord w) ≡ 4
 length-word (op o) = refl

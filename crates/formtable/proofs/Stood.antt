@@ -1,22 +1,19 @@
 -- What is encoded stands: a table that goes on with a form's records, and cells that go on with its constants, have the form stand there.
-use Prim.Native.Nat.{ℕ, _+_, _*_, _/_, _%_, _≤_}
-use mathlib.Core.Path.{_≡_, refl, _∙_}
-use mathlib.Core.List.{List, [], _∷_, _++_, append-assoc, append-nil}
+use Prim.Native.Nat.{ℕ, _+_, _*_, _≤_}
+use mathlib.Core.Path.{_≡_, _∙_}
+use mathlib.Core.List.{List, [], _∷_, _++_, append-assoc}
 use native.Mathlib.Nat.{add-zero}
 use native.Mathlib.Omega.{arith}
 use lib.ListN.{length, drop}
 use lib.Seq.{drop-drop, drop-append-seam}
-use Rattle.language.specs.Objects.{Obj, cellsOf}
-use Rattle.language.specs.Forms.{Form, word, name, chain, construct, constant, insert, applyAll, bu, condition, while, Forms, stop, _&_, _+&_, Word, select, selectRight, op, Def, Prog, count, formsIn, formsInAll, formsOf, constantCells, constantCellsAll, programCells}
-use Rattle.language.specs.Accepted.{IsObj, IsForm, AreForms, AreDefinitions}
+use Rattle.language.specs.Forms.{Form, word, name, chain, construct, constant, insert, applyAll, bu, condition, while, Forms, stop, _&_, _+&_, select, selectRight, op, Prog, count, formsIn, formsInAll, formsOf, constantCells, constantCellsAll, programCells}
+use Rattle.language.specs.Accepted.{IsForm, AreForms, AreDefinitions}
 use Rattle.packing.specs.Packing.{packed}
-use Rattle.language.specs.declared.Val.{Val}
-use Rattle.tables.specs.Tables.{put}
 use Rattle.lexer.specs.Vocabulary.{opCode}
 use Rattle.cells.specs.Encoding.{valOf, cellsFrom}
 use Rattle.cells.proofs.Encoded.{at-front, cells-rep}
 use Rattle.formtable.specs.Encoding.{lowOf, highOf, encodeForm, encodeForms, constantsFrom, constantsFromAll, encodeProgram, programConstants}
-use Rattle.formtable.specs.Standing.{kindAt, arityAt, wordAt, parts, Row, row-op, row-select, row-selectRight, row-name, row-chain, row-construct, row-insert, row-applyAll, row-condition, row-while, row-constant, row-bu, Stands, no-form, a-form, bodies}
+use Rattle.formtable.specs.Standing.{kindAt, arityAt, wideAt, row-op, row-select, row-selectRight, row-name, row-chain, row-construct, row-insert, row-applyAll, row-condition, row-while, row-constant, row-bu, Stands, no-form, a-form, bodies}
 use Rattle.formtable.proofs.Lengths.{length-form, length-constants}
 
 -- ---- a table that goes on with l from index i
@@ -27,7 +24,7 @@ behind t i j a l z e = rw (← z, ← (drop-drop (length a) (i * 4) t), e) (drop
 record Front (t : List ℕ) (i kind arity w : ℕ) (l : List ℕ) : Type 0 where
   is-kind : kindAt t i ≡ kind
   is-arity : arityAt t i ≡ arity
-  is-word : wordAt t i ≡ w
+  is-word : wideAt t i ≡ w
   rest : drop ((i + 1) * 4) t ≡ l
 
 front : (t : List ℕ) (i kind arity lo hi w : ℕ) (l : List ℕ) → w ≡ lo + 4294967296 * hi → drop (i * 4) t ≡ kind ∷ arity ∷ lo ∷ hi ∷ l → Front t i kind arity w l
@@ -138,10 +135,3 @@ module _ (t C : List ℕ) (n : ℕ) where
       let y₁ = behind C c c₁ (constantsFrom c f) (programConstants c₁ P ++ m) (omega (arith, length-constants f c)) y in
       let z : i + (formsIn f + formsOf P) ≡ j + formsOf P = omega arith in
       rw z (form-stands f i c (j + formsOf P) (bodies P) (encodeProgram c₁ P ++ l) (programConstants c₁ P ++ m) (h .1) (omega arith) x y (program-stands P j c₁ l m (h .2) (omega arith) x₁ y₁))
-
--- A program's encoding put in front of a table, with its constants in front of the cells, stands from record 0 on.
-pub encoded-stands : (P : Prog) (t C : List ℕ) (n : ℕ) → AreDefinitions P → programCells P ≤ n → Stands (put t 0 (encodeProgram 0 P)) (put C 0 (programConstants 0 P)) n 0 (bodies P) (formsOf P)
-unfolding put
-encoded-stands P t C n h b =
-    let z : 0 + formsOf P ≡ formsOf P = omega arith in
-    rw z at (program-stands (put t 0 (encodeProgram 0 P)) (put C 0 (programConstants 0 P)) n P 0 0 (drop (0 + length (encodeProgram 0 P)) t) (drop (0 + length (programConstants 0 P)) C) h (omega arith) refl refl)

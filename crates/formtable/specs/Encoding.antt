@@ -5,8 +5,7 @@ use mathlib.Core.Bool.{Bool, _&&_}
 use mathlib.Core.List.{List, [], _∷_, _++_}
 use lib.Dec.{eqb}
 use lib.ListN.{getD}
-use Rattle.language.specs.Objects.{Obj}
-use Rattle.language.specs.Forms.{Form, word, name, chain, construct, constant, insert, applyAll, bu, condition, while, Forms, stop, _&_, Word, select, selectRight, op, Def, Prog, count, formsIn, constantCells}
+use Rattle.language.specs.Forms.{Form, word, name, chain, construct, constant, insert, applyAll, bu, condition, while, Forms, stop, _&_, Word, select, selectRight, op, Prog, count, formsIn, constantCells}
 use Rattle.language.specs.Reading.{Placed}
 use Rattle.packing.specs.Packing.{packed}
 use Rattle.language.specs.declared.Val.{Val}

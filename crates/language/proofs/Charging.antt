@@ -1,6 +1,6 @@
 -- Asking for a step, for cells or for a name is going on by what the meter's method answers; each charge says what is left.
 use Prim.Native.Nat.{ℕ, zero, suc, _+_, _-_, _≤_, _<_}
-use mathlib.Core.Path.{_≡_, refl, sym, ap, _∙_}
+use mathlib.Core.Path.{_≡_, refl, sym, _∙_}
 use mathlib.Core.Bool.{Bool, true, false, cond}
 use native.Mathlib.Omega.{arith}
 use lib.Dec.{eqb, leb}
@@ -149,6 +149,3 @@ step-spent m e = let g = spent-then (eqb (m .steps) 0) m (stepTaken m) (sym (ste
 
 pub cells-spent : (n : ℕ) (m : Meter) {k : Meter} → cellsCharge n m ≡ Spent k → (m .cells < n) × (m ≡ k)
 cells-spent n m e = let g = spent-else (leb n (m .cells)) m (cellsTaken n m) (sym (cells-tested n m) ∙ e) in (leb-false n (m .cells) (g .0), g .1)
-
-pub name-spent : (m : Meter) {k : Meter} → nameCharge m ≡ Spent k → (m .names ≡ 0) × (m ≡ k)
-name-spent m e = let g = spent-then (eqb (m .names) 0) m (nameTaken m) (sym (name-tested m) ∙ e) in (eqb-true (m .names) 0 (g .0), g .1)

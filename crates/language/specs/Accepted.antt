@@ -4,12 +4,12 @@ use mathlib.Core.Path.{_≡_}
 use mathlib.Core.Bool.{true, false}
 use mathlib.Core.List.{List, [], _∷_}
 use mathlib.Core.Option.{none}
-use lib.IntN.{ℤ, pos, negsuc}
+use lib.IntN.{ℤ}
 use lib.ListN.{length}
 use Rattle.language.specs.Numbers.{programLimit, formLimit, definitionLimit, markLimit, wordLimit, selectorLimit, one, inRange}
 use Rattle.language.specs.Objects.{Obj, int, symbol, seq, Objs, nil, _::_}
 use Rattle.language.specs.Words.{ops}
-use Rattle.language.specs.Forms.{Form, word, name, chain, construct, constant, insert, applyAll, bu, condition, while, Forms, stop, _&_, Word, select, selectRight, op, Def, Prog, formsOf}
+use Rattle.language.specs.Forms.{Form, word, name, chain, construct, constant, insert, applyAll, bu, condition, while, Forms, stop, _&_, Word, select, selectRight, op, Prog, formsOf}
 use Rattle.language.specs.Tokens.{isLower, isUpper}
 use Rattle.language.specs.Judging.{all, isSymbolByte, isNameByte, findOp}
 use Rattle.language.specs.Reading.{got, readProgram, isIn}

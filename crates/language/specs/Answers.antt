@@ -1,7 +1,7 @@
 -- The answer of each call, complete: the six numbers, and what stands in each lent buffer afterwards.
-use Prim.Native.Nat.{ℕ, zero, suc, _+_, _-_, _*_, min}
-use mathlib.Core.Bool.{Bool, true, false, cond, _||_, not}
-use mathlib.Core.List.{List, [], _∷_, _++_}
+use Prim.Native.Nat.{ℕ, _+_, min}
+use mathlib.Core.Bool.{cond, _||_, not}
+use mathlib.Core.List.{List, _++_}
 use mathlib.Core.Option.{Option, some, none}
 use lib.Dec.{leb, ltb, eqb}
 use lib.ListN.{length, drop, replicate}
@@ -12,7 +12,7 @@ use Rattle.language.specs.Writing.{writeObj, writeProgram, Scan, on, sho
 use Rattle.language.specs.Numbers.{programLimit, objectLimit, stepLimit, nameLimit, cellLimit, formTableSize, cellTableSize, writtenLimit, one}
 use Rattle.language.specs.Evaluation.{Spent, noStep, noName, noCell, RunEnd, done, fell, ranOut, tooFew, run}
 use Rattle.language.specs.Laws.{Law}
-use Rattle.language.specs.Uses.{Simplified, simplify, applyLaw, lawNumbered}
+use Rattle.language.specs.Uses.{simplify, applyLaw, lawNumbered}
 use Rattle.language.specs.declared.Meter.{Meter}
 use Rattle.language.specs.declared.Answer.{Answer}
 

@@ -1,12 +1,12 @@
 -- Metered evaluation: three budgets, charged as document 01 says.
-use Prim.Native.Nat.{ℕ, zero, suc, _+_, _*_, _-_}
-use mathlib.Core.Bool.{Bool, true, false}
+use Prim.Native.Nat.{ℕ, zero, suc, _+_, _-_}
+use mathlib.Core.Bool.{true, false}
 use mathlib.Core.List.{List, [], _∷_}
 use mathlib.Core.Option.{Option, some, none}
 use lib.Dec.{leb}
 use Rattle.language.specs.Bytes.{sameBytes}
 use Rattle.language.specs.Objects.{Obj, int, symbol, seq, Objs, nil, _::_, lengthOf, cellsOf, truthOf, isT, isF, neither}
-use Rattle.language.specs.Forms.{Form, word, name, chain, construct, constant, insert, applyAll, bu, condition, while, Forms, stop, _&_, Def, Prog, programCells, mainForm}
+use Rattle.language.specs.Forms.{Form, word, name, chain, construct, constant, insert, applyAll, bu, condition, while, Forms, stop, _&_, Prog, programCells, mainForm}
 use Rattle.language.specs.Numbers.{Edition}
 use Rattle.language.specs.Meanings.{WordAnswer, falls, gives, meaning, pair}
 use Rattle.language.specs.Charging.{takeStep, takeCells, takeName, withNames}

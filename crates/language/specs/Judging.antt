@@ -1,17 +1,17 @@
 -- What a word or number is where an object, a part or a defined name may stand; or the refusal. The order is 9, 6, 8.
-use Prim.Native.Nat.{ℕ, zero, suc, _+_, _-_, _*_}
+use Prim.Native.Nat.{ℕ, _+_, _-_, _*_}
 use Prim.Native.Char.{code}
 use mathlib.Core.Bool.{Bool, true, false, cond, _&&_, _||_}
 use mathlib.Core.List.{List, [], _∷_}
 use mathlib.Core.Option.{Option, some, none}
-use lib.Dec.{leb, ltb, eqb}
+use lib.Dec.{leb, eqb}
 use lib.IntN.{ℤ, pos, negℤ}
 use lib.ListN.{length, take, drop}
 use Rattle.language.specs.Bytes.{bytes, sameBytes}
 use Rattle.language.specs.Numbers.{wordLimit, selectorLimit, one, inRange}
 use Rattle.language.specs.Objects.{Obj, int, symbol}
-use Rattle.language.specs.Words.{Op, Entry, entry, ops}
-use Rattle.language.specs.Forms.{Form, word, name, Word, select, selectRight, op}
+use Rattle.language.specs.Words.{Op, entry, ops}
+use Rattle.language.specs.Forms.{Form, word, name, select, selectRight, op}
 use Rattle.language.specs.Tokens.{isDigit, isLower, isUpper, isLetter, span}
 
 -- what it is, or the number of the answer that refuses it

@@ -69,8 +69,8 @@ abbrev pub whenSame : {A : Type 0} → Form → Form → Option A → Option A
 whenSame f g a = elim (sameForm f g) [ yes e ↦ a | no n ↦ none ]
 
 -- A chain that a law puts among a chain's parts is joined in, one level.
-abbrev pub put : Form → Forms → Forms
-put f fs = elim (asChain f) [ some gs ↦ gs +& fs | none ↦ f & fs ]
+abbrev pub joinIn : Form → Forms → Forms
+joinIn f fs = elim (asChain f) [ some gs ↦ gs +& fs | none ↦ f & fs ]
 
 -- Laws 1, 2, 5, 6, 7, 8 and 10 take parts at the front of what is left of a chain, and say what comes in its place.
 
@@ -86,7 +86,7 @@ fit2 (f & fs) = onChain f (λ gs. some (gs +& fs))
 
 -- 5. `f.[%x,g]`: `{f,x}.g`.
 abbrev pub fit5 : Forms → Option Forms
-fit5 fs = onTwoOrMore fs (λ f h rest. onConstruct h (λ gs. onTwo gs (λ c g. onConstant c (λ x. some (bu f x & put g rest)))))
+fit5 fs = onTwoOrMore fs (λ f h rest. onConstruct h (λ gs. onTwo gs (λ c g. onConstant c (λ x. some (bu f x & joinIn g rest)))))
 
 -- the form with j before it, if all others are harmless
 abbrev pub chosen : ℕ → Forms → Option Form
@@ -96,7 +96,7 @@ chosen (suc j) (f & fs) = when (harmless f) (chosen j fs)
 
 -- 6. `k.[f1,..,fn]` or `kr`, k at most n, all others harmless: the chosen form.
 abbrev pub fit6 : Forms → Option Forms
-fit6 fs = onTwoOrMore fs (λ f h rest. onSelector f (λ before. onConstruct h (λ gs. onSome (before (count gs)) (λ j. onSome (chosen j gs) (λ g. some (put g rest))))))
+fit6 fs = onTwoOrMore fs (λ f h rest. onSelector f (λ before. onConstruct h (λ gs. onSome (before (count gs)) (λ j. onSome (chosen j gs) (λ g. some (joinIn g rest))))))
 
 -- 7. `tl.[f1,..,fn]`, n at least 2, f1 harmless: `[f2,..,fn]`.
 abbrev pub fit7 : Forms → Option Forms
@@ -127,11 +127,11 @@ endingIn h (c & cs) = onEndingIn h c (λ f. onSome (endingIn h cs) (λ fs. some 
 
 -- 3. `[f1.h,..,fn.h]`, n at least 2, each of exactly two parts: `[f1,..,fn].h`.
 abbrev pub rewrite3 : Form → Option Form
-rewrite3 c = onConstruct c (λ cs. onTwoOrMore cs (λ c1 c2 more. onSplit c1 (λ f1 h. onSome (endingIn h cs) (λ fs. some (chain (construct fs & put h stop))))))
+rewrite3 c = onConstruct c (λ cs. onTwoOrMore cs (λ c1 c2 more. onSplit c1 (λ f1 h. onSome (endingIn h cs) (λ fs. some (chain (construct fs & joinIn h stop))))))
 
 -- 4. `(p.h->f.h;g.h)`, exactly two parts each: `(p->f;g).h`.
 abbrev pub rewrite4 : Form → Option Form
-rewrite4 c = onCondition c (λ ph fh gh. onSplit ph (λ p h. onEndingIn h fh (λ f. onEndingIn h gh (λ g. some (chain (condition p f g & put h stop))))))
+rewrite4 c = onCondition c (λ ph fh gh. onSplit ph (λ p h. onEndingIn h fh (λ f. onEndingIn h gh (λ g. some (chain (condition p f g & joinIn h stop))))))
 
 -- 9. `(%T->f;g)`: f. `(%F->f;g)`: g.
 abbrev pub rewrite9 : Form → Option Form

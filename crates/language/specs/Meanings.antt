@@ -1,7 +1,6 @@
 -- What each word answers: bottom, or an object with the steps it asks for beyond its own and its cells.
-use Prim.Native.Nat.{ℕ, zero, suc, _+_, _*_, _-_, _^_}
+use Prim.Native.Nat.{ℕ, zero, suc, _+_, _*_, _-_}
 use mathlib.Core.Bool.{Bool, true, false, _&&_, _||_, not as opposite}
-use mathlib.Core.List.{List, [], _∷_}
 use mathlib.Core.Option.{Option, some, none}
 use lib.IntN.{ℤ, pos, negsuc, _+ℤ_, _-ℤ_, _*ℤ_}
 use lib.Signed.{ltZ, quotZ}
@@ -9,7 +8,7 @@ use lib.Dec.{eqb, ltb}
 use Rattle.language.specs.Bytes.{sameBytes}
 use Rattle.language.specs.Numbers.{Edition, one, inRange}
 use Rattle.language.specs.Objects.{Obj, int, symbol, seq, Objs, nil, _::_, lengthOf, _+++_, nthObj, truth, truthOf, isT, isF, neither}
-use Rattle.language.specs.Words.{Op, Entry, entry, cellsBy}
+use Rattle.language.specs.Words.{Op, entry, cellsBy}
 use Rattle.language.specs.Forms.{Word, select, selectRight, op}
 
 pub data WordAnswer : Type 0 where

@@ -1,9 +1,9 @@
 -- Reading objects and programs from any bytes, with the exact refusal.
 use Prim.Native.Nat.{ℕ, zero, suc, _+_, _-_, _*_}
 use Prim.Native.Char.{code}
-use mathlib.Core.Bool.{Bool, true, false, cond, _&&_, _||_}
+use mathlib.Core.Bool.{Bool, false, cond, _&&_, _||_}
 use mathlib.Core.List.{List, [], _∷_, map}
-use lib.Dec.{leb, ltb, eqb}
+use lib.Dec.{ltb, eqb}
 use lib.ListN.{length}
 use lib.Seq.{slice}
 use Rattle.language.specs.Bytes.{sameBytes}

@@ -1,15 +1,14 @@
 -- Places, single uses of a law, and the simplifier.
-use Prim.Native.Nat.{ℕ, zero, suc, _+_, _-_}
+use Prim.Native.Nat.{ℕ, zero, suc, _-_}
 use mathlib.Core.Bool.{Bool, true, false}
 use mathlib.Core.List.{List, [], _∷_}
 use mathlib.Core.Option.{Option, some, none}
 use lib.Dec.{leb, ltb}
-use Rattle.language.specs.Objects.{Obj}
 use Rattle.language.specs.Forms.{Form, word, name, chain, construct, constant, insert, applyAll, bu, condition, while, Forms, stop, _&_, Def, Prog, formsIn, formsOf}
 use Rattle.language.specs.Numbers.{markLimit}
 use Rattle.language.specs.Writing.{marksOfProgram}
 use Rattle.groundwork.specs.Options.{onSome, when}
-use Rattle.language.specs.Laws.{put, New, stays, puts, formOf, Law, law1, law2, law3, law4, law5, law6, law7, law8, law9, law10, law11, atRoot}
+use Rattle.language.specs.Laws.{joinIn, New, stays, puts, formOf, Law, law1, law2, law3, law4, law5, law6, law7, law8, law9, law10, law11, atRoot}
 
 -- Places number forms from 0, each before its parts: place 0 is the form itself, the others are its parts'.
 abbrev pub place : {A : Type 0} → ℕ → A → (ℕ → A) → A
@@ -30,7 +29,7 @@ aroundAll c fs = onSome fs (λ gs. some (stays (c gs)))
 -- among the parts of a chain (true), or the forms of a construction (false)
 abbrev pub among : Bool → New → Forms → Forms
 among true (stays f) fs = f & fs
-among true (puts f) fs = put f fs
+among true (puts f) fs = joinIn f fs
 among false n fs = formOf n & fs
 
 abbrev mutual

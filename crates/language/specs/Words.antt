@@ -1,5 +1,5 @@
 -- The table of primitive words with their cells.
-use Prim.Native.Nat.{ℕ, zero, suc, _+_, _*_, _-_}
+use Prim.Native.Nat.{ℕ, _+_, _*_, _-_}
 use mathlib.Core.List.{List, [], _∷_}
 use Rattle.language.specs.Bytes.{bytes}
 

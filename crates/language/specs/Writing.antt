@@ -1,15 +1,15 @@
 -- How objects and programs are written: no space, no line feed and no bracket that isn't needed.
 use Prim.Native.Nat.{ℕ, zero, suc, max, _+_, _-_, _/_, _%_}
 use Prim.Native.Char.{code}
-use mathlib.Core.Bool.{Bool, true, false, cond, _&&_}
+use mathlib.Core.Bool.{cond, _&&_}
 use mathlib.Core.List.{List, [], _∷_, _++_}
 use lib.Dec.{leb, eqb}
 use lib.IntN.{ℤ, pos, negsuc}
 use Rattle.language.specs.Bytes.{bytes}
 use Rattle.language.specs.Numbers.{markLimit}
 use Rattle.language.specs.Objects.{Obj, int, symbol, seq, Objs, nil, _::_}
-use Rattle.language.specs.Words.{Entry, entry}
-use Rattle.language.specs.Forms.{Form, word, name, chain, construct, constant, insert, applyAll, bu, condition, while, Forms, stop, _&_, Word, select, selectRight, op, Def, Prog, isChain}
+use Rattle.language.specs.Words.{entry}
+use Rattle.language.specs.Forms.{Form, word, name, chain, construct, constant, insert, applyAll, bu, condition, while, Forms, stop, _&_, Word, select, selectRight, op, Prog, isChain}
 
 -- at most k + 1 digits
 unfoldable pub digits : ℕ → ℕ → List ℕ

@@ -5,17 +5,16 @@ use mathlib.Core.List.{List, [], _∷_}
 use mathlib.Core.Option.{Option, some, none}
 use Prim.Native.Nat.{ℕ, zero, suc, min, _+_, _-_, _*_, _≤_, _<_}
 use native.Mathlib.Nat.{le-trans, zero-add, suc-add}
-use native.Mathlib.Numerals.{add-one}
 use native.Mathlib.Omega.{arith}
 use borrow.Author.Tests.{le-leb, lt-leb, le-ltb, lt-ltb, eq-eqb, ne-eqb, leb-true, leb-false, not-true, not-false}
 use lib.Dec.{leb, eqb}
-use lib.IntN.{pos, negsuc, negℤ}
-use lib.ListN.{length, getD, take, drop, length-drop, length-take}
+use lib.IntN.{pos, negℤ}
+use lib.ListN.{length, getD, take, drop}
 use lib.Seq.{slice, length-slice, take-take, take-nil, drop-drop}
 use Rattle.language.specs.Bytes.{bytes, sameBytes}
-use Rattle.language.specs.Objects.{Obj, int, symbol}
+use Rattle.language.specs.Objects.{symbol}
 use Rattle.language.specs.Words.{Op, ops}
-use Rattle.language.specs.Forms.{Form, word, name, Word, select, selectRight, op}
+use Rattle.language.specs.Forms.{Form, word, name, select, selectRight, op}
 use Rattle.language.specs.Tokens.{span, isDigit, isLetter, sizeAt}
 use Rattle.language.specs.Reading.{wordAt}
 use Rattle.language.specs.Judging.{Judged, is, isNot, onJudged, all, judgeWord, valueFrom, valueOf, leadingZero, ranged, judgeInteger, judgeNegative, judgeAtom, findOp, isSelector, judgeSelector, wordForm, judgePart, judgeName, refusalOf}
@@ -27,13 +26,13 @@ use Rattle.lexer.specs.declared.AtomJudged.the-variants as A
 use Rattle.lexer.specs.declared.PartJudged.the-variants as P
 use Rattle.lexer.specs.declared.NameJudged.the-variants as N
 use Rattle.lexer.specs.Classes.{testOf}
-use Rattle.lexer.specs.Readings.{Spanned, Sized}
+use Rattle.lexer.specs.Readings.{Spanned, WordSized}
 use Rattle.packing.specs.Packing.{packed}
-use Rattle.lexer.specs.Vocabulary.{opCode, codeOf}
-use Rattle.lexer.specs.Judgements.{atomVal, atomJudged, formJudged, partJudged, nameJudged, judgeSymbol, judgePlain, WordJudged}
+use Rattle.lexer.specs.Vocabulary.{codeOf}
+use Rattle.lexer.specs.Judgements.{atomJudged, formJudged, partJudged, nameJudged, judgeSymbol, judgePlain, WordJudged}
 use Rattle.packing.proofs.Slices.{slice-first}
-use Rattle.lexer.proofs.Spans.{all-yes, all-no, span-le, slice-none}
-use Rattle.lexer.proofs.Sizes.{within, size-past}
+use Rattle.lexer.proofs.Spans.{all-yes, all-no, slice-none}
+use Rattle.lexer.proofs.Sizes.{within}
 use Rattle.lexer.proofs.Values.{value-grows}
 use Rattle.lexer.proofs.Words.{code-below, same-not}
 
@@ -431,7 +430,7 @@ module _ (s : List ℕ) (p : ℕ) {b : ℕ} {t : Bool} (at : b ≡ getD s p 0) (
   pub refusal-mark : not t ≡ true → 6 ≡ refusalOf (wordAt s p)
   refusal-mark h = sym (refusal-other (wordAt s p) (first-byte isLetter refl s p (p + sizeAt s p) (rw (← at) (sym letter ∙ not-true t h))))
 
-  module _ {n : ℕ} (is-letter : not t ≡ false) (sized : Sized s p n) where
+  module _ {n : ℕ} (is-letter : not t ≡ false) (sized : WordSized s p n) where
     inside : isLetter (getD s p 0) ≡ true
     inside = rw (← at) (sym letter ∙ not-false t is-letter)
 

@@ -1,19 +1,18 @@
 -- Laws of `placeFrom`, `sizeAt` and `tokenFrom`, one for each way out of the word reader.
-use mathlib.Core.Path.{_≡_, refl, ap, sym, _∙_}
+use mathlib.Core.Path.{_≡_, refl, sym, _∙_}
 use mathlib.Core.Bool.{Bool, true, false, true≢false}
 use mathlib.Core.List.{List, [], _∷_}
-use Prim.Native.Nat.{ℕ, zero, suc, min, _+_, _-_, _≤_, _<_}
-use native.Mathlib.Numerals.{add-one, add-two}
+use Prim.Native.Nat.{ℕ, zero, suc, _+_, _-_, _≤_, _<_}
+use native.Mathlib.Numerals.{add-one}
 use native.Mathlib.Omega.{arith}
 use borrow.Author.Tests.{eq-eqb, ne-eqb, le-leb, lt-leb}
 use lib.Dec.{eqb}
 use lib.ListN.{length, getD, drop, drop-of-length-le}
-use lib.Seq.{drop-cons, drop-length}
+use lib.Seq.{drop-cons}
 use Rattle.language.specs.declared.Token.{Token}
 use Rattle.language.specs.Tokens.{span, placeFrom, size, sizeAt, dashSize, tokenFrom, isWordByte, isDigit}
-use Rattle.lexer.specs.declared.Class.{Class}
 use Rattle.lexer.specs.declared.Class.the-variants.{Blank, Word}
-use Rattle.lexer.specs.Readings.{Spanned, Skipped, Sized, NextWord}
+use Rattle.lexer.specs.Readings.{Spanned, Skipped, WordSized, NextWord}
 use Rattle.lexer.proofs.Spans.{slice-rest}
 
 -- A byte that passes a test which 0 does not pass is within the text.
@@ -63,22 +62,22 @@ module _ (s : List ℕ) (p : ℕ) where
   unfolding sizeAt
   at-dash h e = rw (add-one, drop-cons s p 0) (size-dash (getD s p 0) (drop (suc p) s) e)
 
-  pub sized-past : length s ≤ p → Sized s p 0
+  pub sized-past : length s ≤ p → WordSized s p 0
   sized-past h = record { is = sym (size-past h); some = omega arith; high = omega arith }
 
-  pub sized-word : {t : Bool} {e : ℕ} → p < length s → t ≡ isWordByte (getD s p 0) → t ≡ true → Spanned Word s (p + 1) (length s) e → Sized s p (e - p)
+  pub sized-word : {t : Bool} {e : ℕ} → p < length s → t ≡ isWordByte (getD s p 0) → t ≡ true → Spanned Word s (p + 1) (length s) e → WordSized s p (e - p)
   unfolding sizeAt
   sized-word {t} {e} h is y r =
       let k = rw (slice-rest s (p + 1)) at (r .is) in
       let z : sizeAt s p ≡ suc (span isWordByte (drop (p + 1) s)) = rw (add-one, drop-cons s p 0) (size-word (getD s p 0) (drop (suc p) s) (sym is ∙ y)) in
       record { is = omega (arith, k, z); some = omega (arith, r .low); high = omega (arith, r .low, r .high) }
 
-  pub sized-other : {t : Bool} → p < length s → t ≡ isWordByte (getD s p 0) → t ≡ false → (getD s p 0 ≡ 45 → ⊥) → Sized s p 1
+  pub sized-other : {t : Bool} → p < length s → t ≡ isWordByte (getD s p 0) → t ≡ false → (getD s p 0 ≡ 45 → ⊥) → WordSized s p 1
   unfolding sizeAt
   sized-other {t} h is n d = record { is = rw (drop-cons s p 0, size-other (getD s p 0) (drop (suc p) s) (sym is ∙ n) (ne-eqb (getD s p 0) 45 d)); some = omega arith; high = omega arith }
 
   module _ {t : Bool} {c : ℕ} (h : p < length s) (dash : getD s p 0 ≡ 45) (at : c ≡ getD s (p + 1) 0) (is : t ≡ isDigit c) where
-    pub sized-number : {e : ℕ} → t ≡ true → Spanned Word s (p + 2) (length s) e → Sized s p (e - p)
+    pub sized-number : {e : ℕ} → t ≡ true → Spanned Word s (p + 2) (length s) e → WordSized s p (e - p)
     sized-number {e} y r =
         let d : isDigit (getD s (p + 1) 0) ≡ true = rw (← at) (sym is ∙ y) in
         let i = within isDigit refl s (p + 1) d in
@@ -88,13 +87,13 @@ module _ (s : List ℕ) (p : ℕ) where
         let z′ = rw m at z in
         record { is = omega (arith, k, z′); some = omega (arith, r .low); high = omega (arith, r .low, r .high) }
 
-    pub sized-arrow : t ≡ false → c ≡ 62 → Sized s p 2
+    pub sized-arrow : t ≡ false → c ≡ 62 → WordSized s p 2
     sized-arrow n a =
         let i = within (λ (b : ℕ). eqb b 62) refl s (p + 1) (rw (← at) (eq-eqb c 62 a)) in
         let z : sizeAt s p ≡ 2 = at-dash h dash ∙ rw (drop-cons s (p + 1) 0 i) (dash-mark (getD s (p + 1) 0) (drop (suc (p + 1)) s) true (rw (← at) (sym is ∙ n)) (rw (← at) (eq-eqb c 62 a))) in
         record { is = sym z; some = omega arith; high = omega arith }
 
-    pub sized-dash : t ≡ false → (c ≡ 62 → ⊥) → Sized s p 1
+    pub sized-dash : t ≡ false → (c ≡ 62 → ⊥) → WordSized s p 1
     sized-dash n a =
         record { is = sym (at-dash h dash ∙ dash-other s (p + 1) (rw (← at) (sym is ∙ n)) (λ z. a (at ∙ z))); some = omega arith; high = omega arith }
 
@@ -114,7 +113,7 @@ module _ (s : List ℕ) (at p : ℕ) where
       let hi = k .high in
       record { is = token-none (rw (← e) h); place = λ i. omega arith; size = sym (size-past s (length s) (omega arith)); low = omega arith; some = omega arith; high = omega arith }
 
-  pub next-some : {n : ℕ} → Skipped s at p → p < length s → Sized s p n → NextWord s at (record { place = p; length = n })
+  pub next-some : {n : ℕ} → Skipped s at p → p < length s → WordSized s p n → NextWord s at (record { place = p; length = n })
   next-some {n} k h z =
       let e = k .is in
       let f = z .is in

@@ -1,13 +1,12 @@
 -- Laws of `span` over a part of a text: the loop's turn, its ways out, and what a span says of all bytes.
-use mathlib.Core.Path.{_≡_, refl, ap, sym, _∙_}
+use mathlib.Core.Path.{_≡_, refl, sym, _∙_}
 use mathlib.Core.Bool.{Bool, true, false, not}
 use mathlib.Core.List.{List, [], _∷_}
-use Prim.Native.Nat.{ℕ, zero, suc, _+_, _-_, _≤_, _<_}
-use native.Mathlib.Numerals.{add-one}
+use Prim.Native.Nat.{ℕ, suc, _+_, _-_, _≤_, _<_}
 use native.Mathlib.Omega.{arith}
 use borrow.Author.Tests.{not-true, not-false}
 use lib.ListN.{length, getD, take, drop, drop-of-length-le}
-use lib.Seq.{slice, slice-cons, slice-empty, length-slice, length-take-le, take-length}
+use lib.Seq.{slice, length-take-le, take-length}
 use Rattle.packing.proofs.Slices.{slice-first}
 use Rattle.language.specs.Tokens.{span}
 use Rattle.language.specs.Judging.{all}
@@ -16,15 +15,6 @@ use Rattle.lexer.specs.Classes.{testOf}
 use Rattle.lexer.specs.Readings.{Spanned}
 
 module _ (P : ℕ → Bool) where
-  pub span-le : (w : List ℕ) → span P w ≤ length w
-  unfolding span
-  span-le [] = omega arith
-  span-le (b ∷ w) = go (P b) (span-le w)
-    where
-      go : (t : Bool) → span P w ≤ length w → elim t as (λ (u : Bool). ℕ) [ true ↦ suc (span P w) | false ↦ zero ] ≤ suc (length w)
-      go true h = omega arith
-      go false h = omega arith
-
   pub span-true : (b : ℕ) (w : List ℕ) → P b ≡ true → span P (b ∷ w) ≡ suc (span P w)
   unfolding span
   span-true b w e = rw (e, span)

@@ -1,20 +1,20 @@
 -- The table of words: the rule of each of its bytes by one computed test, and the laws of comparing and finding a word.
-use mathlib.Core.Path.{_≡_, refl, ap, sym, subst, _∙_}
-use mathlib.Core.Bool.{Bool, true, false, cond, _&&_}
-use mathlib.Core.List.{List, [], _∷_, _++_, map}
-use mathlib.Core.Option.{Option, some, none}
+use mathlib.Core.Path.{_≡_, refl, ap, sym, _∙_}
+use mathlib.Core.Bool.{Bool, true, false, _&&_}
+use mathlib.Core.List.{List, [], _∷_, map}
+use mathlib.Core.Option.{Option, some}
 use Prim.Native.Nat.{ℕ, zero, suc, _+_, _-_, _*_, _/_, _%_, _≤_, _<_}
 use native.Mathlib.Numerals.{add-one}
 use native.Mathlib.Omega.{arith}
-use borrow.Author.Tests.{eq-eqb, ne-eqb, leb-true}
-use lib.Dec.{T, leb, ltb, eqb, eqb→eq, leb→le, ltb→lt}
-use lib.ListN.{length, getD, drop, take, replicate, drop-of-length-le, List·getD-map, List·getD-append, List·getD-eq-default}
-use lib.Seq.{drop-cons, drop-length, slice, length-slice, drop-nil}
+use borrow.Author.Tests.{eq-eqb, ne-eqb}
+use lib.Dec.{T, leb, ltb, eqb}
+use lib.ListN.{length, getD, drop, replicate, drop-of-length-le, List·getD-map, List·getD-append, List·getD-eq-default}
+use lib.Seq.{drop-cons, slice, length-slice}
 use Rattle.language.specs.Bytes.{sameBytes}
-use Rattle.language.specs.Words.{Op, Entry, entry, ops}
+use Rattle.language.specs.Words.{Op, entry, ops}
 use Rattle.language.specs.Words as W
 use Rattle.language.specs.Judging.{findOp}
-use Rattle.lexer.specs.Vocabulary.{opCode, codeOf, ruleCode, rowOf, rowByte, Rows, spelledAt, ruleAt}
+use Rattle.lexer.specs.Vocabulary.{opCode, codeOf, ruleCode, rowOf, rowByte, VocabularyRows, spelledAt, ruleAt}
 use Rattle.lexer.proofs.Computed.{at, every}
 use Rattle.packing.proofs.Slices.{slice-first}
 use Rattle.lexer.proofs.Spans.{slice-none}
@@ -72,10 +72,10 @@ row-right t ok k j h g n =
     let e = eqb→eq (getD t (k * 9 + j) 0) (getD (rowOf (getD ops ((k * 9 + j) / 9) W.id)) ((k * 9 + j) % 9) 0) (at 0 right t ok (k * 9 + j) (omega arith)) in
     rw (d, m) at e
 
-pub table-right : (t : List ℕ) → T (every right 0 t) → 207 ≤ length t → Rows t
+pub table-right : (t : List ℕ) → T (every right 0 t) → 207 ≤ length t → VocabularyRows t
 table-right t ok n = record { long = n; rows = λ k j h g. row-right t ok k j h g n }
 
-pub row-in : {t : List ℕ} {k j : ℕ} → Rows t → k ≤ 22 → j < 9 → getD t (k * 9 + j) 0 ≡ rowByte k j
+pub row-in : {t : List ℕ} {k j : ℕ} → VocabularyRows t → k ≤ 22 → j < 9 → getD t (k * 9 + j) 0 ≡ rowByte k j
 row-in r h g = r .rows _ _ h g
 
 -- no word has more than seven letters

@@ -22,7 +22,7 @@ pub record Skipped (s : List ℕ) (at r : ℕ) : Type 0 where
   pub high : r ≤ at + (length s - at)
 
 -- the length of what stands at p: some byte if p is within the text, and no byte behind its end
-pub record Sized (s : List ℕ) (p r : ℕ) : Type 0 where
+pub record WordSized (s : List ℕ) (p r : ℕ) : Type 0 where
   pub is : r ≡ sizeAt s p
   pub some : min 1 (length s - p) ≤ r
   pub high : r ≤ length s - p

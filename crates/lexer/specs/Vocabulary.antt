@@ -1,10 +1,10 @@
 -- The primitive words by their place in the table.
-use Prim.Native.Nat.{ℕ, zero, suc, _+_, _*_, _≤_, _<_}
+use Prim.Native.Nat.{ℕ, suc, _+_, _*_, _≤_, _<_}
 use mathlib.Core.Path.{_≡_}
 use mathlib.Core.List.{List, [], _∷_, _++_, map}
 use mathlib.Core.Option.{Option, some, none}
 use lib.ListN.{length, getD, replicate}
-use Rattle.language.specs.Words.{Op, Op-discrete, CellRule, no-cell, one-cell, n-less-1, n-cells, n-and-1, three-n, m-and-m-times-n, Entry, entry, ops}
+use Rattle.language.specs.Words.{Op, Op-discrete, CellRule, no-cell, one-cell, n-less-1, n-cells, n-and-1, three-n, m-and-m-times-n, entry, ops}
 use Rattle.language.specs.Words as W
 
 -- how many words stand before this one
@@ -44,6 +44,6 @@ unfoldable pub rowByte : ℕ → ℕ → ℕ
 rowByte code j = getD (rowOf (getD ops code W.id)) j 0
 
 -- a table that holds every word's row
-pub record Rows (t : List ℕ) : Type 0 where
+pub record VocabularyRows (t : List ℕ) : Type 0 where
   pub long : 207 ≤ length t
   pub rows : (code j : ℕ) → code ≤ 22 → j < 9 → getD t (code * 9 + j) 0 ≡ rowByte code j

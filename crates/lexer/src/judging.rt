@@ -1,7 +1,7 @@
 // What a word or number is where an object, a part or a defined name may stand; or the refusal.
 ghost use mathlib.Core.Path.{_≡_};
 ghost use Prim.Native.Nat.{_+_, _≤_, _<_};
-ghost use lib.ListN.{length, take, drop};
+ghost use lib.ListN.{length};
 ghost use lib.Seq.{slice};
 ghost use Rattle.language.specs.Bytes.{bytes, sameBytes};
 ghost use Rattle.language.specs.Reading.{wordAt};

@@ -1,8 +1,7 @@
 // Where the next word, number or mark stands. Every function is total: past the text's end nothing stands.
-ghost use mathlib.Core.Path.{_≡_};
 ghost use Prim.Native.Nat.{_≤_, _+_};
 ghost use lib.ListN.{length};
-ghost use Rattle.lexer.specs.Readings.{Spanned, Skipped, Sized, NextWord};
+ghost use Rattle.lexer.specs.Readings.{Spanned, Skipped, WordSized, NextWord};
 use super::Class;
 use super::classes;
 use language::Token;
@@ -38,7 +37,7 @@ fn word_end(s: &[u8], at: usize) -> usize
 
 // How long the word, number or mark at p is: a run of letters and digits, with a `-` directly before a digit; `->`; or one byte.
 pub fn size_at(s: &[u8], p: usize) -> usize
-    ensures { λ r. ⌜ Sized (now (s .entry)) p r ⌝ }
+    ensures { λ r. ⌜ WordSized (now (s .entry)) p r ⌝ }
 {
     if s.len() <= p {
         return 0;

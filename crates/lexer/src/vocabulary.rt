@@ -6,7 +6,7 @@ ghost use lib.Seq.{slice};
 ghost use Rattle.language.specs.Bytes.{sameBytes};
 ghost use Rattle.language.specs.Words.{ops};
 ghost use Rattle.language.specs.Judging.{findOp};
-ghost use Rattle.lexer.specs.Vocabulary.{rowByte, Rows, spelledAt, ruleAt, codeOf};
+ghost use Rattle.lexer.specs.Vocabulary.{rowByte, VocabularyRows, spelledAt, ruleAt, codeOf};
 
 // For each word, in the order of the definitions: its cell rule, its length, and its letters up to the seventh place.
 const TABLE: [u8; 207] =
@@ -14,14 +14,14 @@ const TABLE: [u8; 207] =
 
 // All rows: made once for a search, and lent.
 fn table() -> [u8; 207]
-    ensures { λ r. ⌜ Rows r ⌝ }
+    ensures { λ r. ⌜ VocabularyRows r ⌝ }
 {
     TABLE
 }
 
 // The byte j of a word's row.
 fn row_byte(rows: &[u8; 207], code: u32, j: usize) -> u8
-    requires { ⌜ Rows (now rows) × (code ≤ 22) × (j < 9) ⌝ }
+    requires { ⌜ VocabularyRows (now rows) × (code ≤ 22) × (j < 9) ⌝ }
     ensures { λ r. ⌜ r ≡ rowByte code j ⌝ }
 {
     rows[(code as usize) * 9 + j]
@@ -29,7 +29,7 @@ fn row_byte(rows: &[u8; 207], code: u32, j: usize) -> u8
 
 // The length of the word in row `code`, 0 past the table.
 fn row_length(rows: &[u8; 207], code: u32) -> usize
-    requires { ⌜ Rows (now rows) ⌝ }
+    requires { ⌜ VocabularyRows (now rows) ⌝ }
     ensures { λ r. ⌜ (r ≡ length (spelledAt code)) × (r ≤ 7) ⌝ }
 {
     if 22 < code {
@@ -40,7 +40,7 @@ fn row_length(rows: &[u8; 207], code: u32) -> usize
 
 // The byte i of the word in row `code`, 0 past its end.
 fn row_letter(rows: &[u8; 207], code: u32, i: usize) -> u8
-    requires { ⌜ Rows (now rows) ⌝ }
+    requires { ⌜ VocabularyRows (now rows) ⌝ }
     ensures { λ r. ⌜ r ≡ getD (spelledAt code) i 0 ⌝ }
 {
     if 22 < code {
@@ -81,7 +81,7 @@ pub fn word_byte(code: u32, i: usize) -> u8
 
 // Whether the bytes from `from` up to `to` are the word in row `code`.
 fn word_is(rows: &[u8; 207], s: &[u8], from: usize, to: usize, code: u32) -> bool
-    requires { ⌜ Rows (now rows) × (from ≤ to) × (to ≤ length (now s)) ⌝ }
+    requires { ⌜ VocabularyRows (now rows) × (from ≤ to) × (to ≤ length (now s)) ⌝ }
     ensures { λ r. ⌜ r ≡ sameBytes (spelledAt code) (slice from to (now (s .entry))) ⌝ }
 {
     if row_length(rows, code) != to - from {
@@ -99,7 +99,7 @@ fn word_is(rows: &[u8; 207], s: &[u8], from: usize, to: usize, code: u32) -> boo
 
 // The first row whose word stands from `from` up to `to`, 23 if none does.
 fn find_row(rows: &[u8; 207], s: &[u8], from: usize, to: usize) -> u32
-    requires { ⌜ Rows (now rows) × (from ≤ to) × (to ≤ length (now s)) ⌝ }
+    requires { ⌜ VocabularyRows (now rows) × (from ≤ to) × (to ≤ length (now s)) ⌝ }
     ensures { λ r. ⌜ r ≡ codeOf (findOp ops (slice from to (now (s .entry)))) ⌝ }
 {
     let mut code: u32 = 0;

@@ -11,7 +11,7 @@ use Rattle.language.specs.declared.Val.{Val}
 use Rattle.cells.specs.Cells.{Rep}
 use Rattle.cells.proofs.Reps.{val-same}
 use Rattle.cells.proofs.Inversions.{tag-low}
-use Rattle.formtable.specs.Standing.{kindAt, arityAt, wordAt, parts, Row, row-op, row-select, row-selectRight, row-name, row-chain, row-construct, row-insert, row-applyAll, row-condition, row-while, row-constant, row-bu}
+use Rattle.formtable.specs.Standing.{kindAt, arityAt, wideAt, parts, Row, row-op, row-select, row-selectRight, row-name, row-chain, row-construct, row-insert, row-applyAll, row-condition, row-while, row-constant, row-bu}
 use Rattle.linker.specs.Linked.{constantAt}
 
 -- ---- the parts of a form
@@ -33,7 +33,7 @@ both-formed (f & fs) gs a b = (a .0, both-formed fs gs (a .1) b)
 
 -- ---- one record
 -- the constant of a record whose kind is k, 12 or 16, and the tag
-pub constant-of : {C : List ℕ} {n : ℕ} (t : List ℕ) (i k : ℕ) (v : Val) {x : Obj} → k % 4 ≡ 0 → kindAt t i ≡ k + v .tag → wordAt t i ≡ v .word → Rep C n v x → Rep C n (constantAt t i) x
+pub constant-of : {C : List ℕ} {n : ℕ} (t : List ℕ) (i k : ℕ) (v : Val) {x : Obj} → k % 4 ≡ 0 → kindAt t i ≡ k + v .tag → wideAt t i ≡ v .word → Rep C n v x → Rep C n (constantAt t i) x
 constant-of t i k v z a c r = let l = tag-low r in rw (val-same (constantAt t i) v (omega arith) c) r
 
 module _ (t u : List ℕ) (i : ℕ) (same : (j : ℕ) → j < i * 4 + 4 → getD u j 0 ≡ getD t j 0) where
@@ -43,7 +43,7 @@ module _ (t u : List ℕ) (i : ℕ) (same : (j : ℕ) → j < i * 4 + 4 → getD
   arity-same : arityAt u i ≡ arityAt t i
   arity-same = same (i * 4 + 1) (omega arith)
 
-  word-same : wordAt u i ≡ wordAt t i
+  word-same : wideAt u i ≡ wideAt t i
   word-same = omega (arith, same (i * 4 + 2) (omega arith), same (i * 4 + 3) (omega arith))
 
   pub row-same : {C : List ℕ} {n : ℕ} {f : Form} → Row t C n i f → Row u C n i f

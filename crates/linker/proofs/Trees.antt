@@ -6,8 +6,8 @@ use mathlib.Core.List.{List}
 use lib.ListN.{getD}
 use Rattle.language.specs.Forms.{Form, Forms, stop, _&_, _+&_}
 use Rattle.cells.proofs.Reps.{val-same}
-use Rattle.linker.specs.Linked.{grouped, kindAt, linkAt, constantAt, is-op, is-select, is-select-right, is-name, is-chain, is-construct, is-insert, is-all, is-condition, is-while, is-constant, is-bu, FormAt, form-at, PartsAt, no-part, a-part, UpTo, none-yet, one-more}
-use Rattle.linker.specs.Linking.{Row, row-op, row-select, row-select-right, row-name, row-construct, row-insert, row-all, row-condition, row-while, row-constant, row-bu, Tree, tree, tree-chain, Kids, no-kid, a-kid, Back, no-back, a-back}
+use Rattle.linker.specs.Linked.{grouped, linkedKindAt, linkAt, constantAt, is-op, is-select, is-select-right, is-name, is-chain, is-construct, is-insert, is-all, is-condition, is-while, is-constant, is-bu, FormAt, form-at, PartsAt, no-part, a-part, UpTo, none-yet, one-more}
+use Rattle.linker.specs.Linking.{LinkedRow, row-op, row-select, row-select-right, row-name, row-construct, row-insert, row-all, row-condition, row-while, row-constant, row-bu, Tree, tree, tree-chain, Kids, no-kid, a-kid, Back, no-back, a-back}
 
 -- the numbers from lo up to hi are as they were
 pub record Keeps (F G : List ℕ) (lo hi : ℕ) : Type 0 where
@@ -45,7 +45,7 @@ tree-small (tree-chain l q b) = l
 
 -- ---- what they depend on
 module _ (F G : List ℕ) (i : ℕ) (h : getD G (i * 4) 0 % 32 ≡ getD F (i * 4) 0 % 32) (s : Keeps F G (i * 4 + 1) (i * 4 + 4)) where
-  pub kind-kept : kindAt G i ≡ kindAt F i
+  pub kind-kept : linkedKindAt G i ≡ linkedKindAt F i
   kind-kept = ap grouped h
 
   pub constant-kept : constantAt G i ≡ constantAt F i
@@ -54,7 +54,7 @@ module _ (F G : List ℕ) (i : ℕ) (h : getD G (i * 4) 0 % 32 ≡ getD F (i * 4
       let b = s .keep (i * 4 + 3) (omega arith) (omega arith) in
       val-same (constantAt G i) (constantAt F i) (omega (arith, h)) (omega (arith, a, b))
 
-  pub row-kept : {C : List ℕ} {n : ℕ} {root : List ℕ → ℕ} {f : Form} → Row F C n root i f → Row G C n root i f
+  pub row-kept : {C : List ℕ} {n : ℕ} {root : List ℕ → ℕ} {f : Form} → LinkedRow F C n root i f → LinkedRow G C n root i f
   row-kept (row-op a b) = row-op (kind-kept ∙ a) (s .keep (i * 4 + 2) (omega arith) (omega arith) ∙ b)
   row-kept (row-select a b) = row-select (kind-kept ∙ a) (s .keep (i * 4 + 2) (omega arith) (omega arith) ∙ b)
   row-kept (row-select-right a b) = row-select-right (kind-kept ∙ a) (s .keep (i * 4 + 2) (omega arith) (omega arith) ∙ b)

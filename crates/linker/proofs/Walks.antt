@@ -15,9 +15,9 @@ use Rattle.lexer.proofs.Words.{code-below}
 use Rattle.formtable.specs.Standing as S
 use Rattle.formtable.specs.Standing.{parts}
 use Rattle.linker.specs.declared.Turned.{Turned}
-use Rattle.linker.specs.Linked.{grouped, kindAt, linkAt}
+use Rattle.linker.specs.Linked.{grouped, linkedKindAt, linkAt}
 use Rattle.linker.specs.Roots.{rootFrom, rootIn, linkSet}
-use Rattle.linker.specs.Linking.{Row, row-op, row-select, row-select-right, row-name, row-construct, row-insert, row-all, row-condition, row-while, row-constant, row-bu, Tree, tree, tree-chain, Kids, no-kid, a-kid, Back, no-back, a-back, Walked, Before, Reversed, OneLinked, AllLinked}
+use Rattle.linker.specs.Linking.{LinkedRow, row-op, row-select, row-select-right, row-name, row-construct, row-insert, row-all, row-condition, row-while, row-constant, row-bu, Tree, tree, tree-chain, Kids, no-kid, a-kid, Back, no-back, a-back, Walked, Before, Reversed, OneLinked, AllLinked}
 use Rattle.linker.proofs.Trees.{Keeps, forms-end, forms-join, tree-up, kids-up, back-up, tree-small, constant-kept, tree-kept, kids-kept, back-kept}
 use Rattle.formtable.proofs.Standing.{stands-up, arity-of}
 use Rattle.linker.proofs.Records.{parts-formed, both-formed, constant-of, row-same}
@@ -147,11 +147,11 @@ unfolding grouped
 kind-16 k a b = let z : k % 32 ≡ k = omega arith in rw (z, le-ltb k 12 (omega arith), le-ltb k 16 a, lt-ltb k 20 b)
 
 -- the same kind in a table whose first number of the record leaves the same
-kind-is : (t u : List ℕ) (i κ : ℕ) → κ < 12 → getD u (i * 4) 0 % 32 ≡ getD t (i * 4) 0 % 32 → S.kindAt t i ≡ κ → kindAt u i ≡ κ
+kind-is : (t u : List ℕ) (i κ : ℕ) → κ < 12 → getD u (i * 4) 0 % 32 ≡ getD t (i * 4) 0 % 32 → S.kindAt t i ≡ κ → linkedKindAt u i ≡ κ
 kind-is t u i κ l h e = ap grouped (h ∙ ap (λ (x : ℕ). x % 32) e) ∙ kind-of κ l
 
 -- a record that is no chain and no name says in a linked table what it said
-row-of : {C : List ℕ} {n : ℕ} {root : List ℕ → ℕ} (t u : List ℕ) (i : ℕ) {f : Form} → getD u (i * 4) 0 % 32 ≡ getD t (i * 4) 0 % 32 → Keeps t u (i * 4 + 1) (i * 4 + 4) → (S.kindAt t i % 32 ≡ 5 → ⊥) → (S.kindAt t i % 32 ≡ 4 → ⊥) → IsForm f → S.Row t C n i f → Row u C n root i f
+row-of : {C : List ℕ} {n : ℕ} {root : List ℕ → ℕ} (t u : List ℕ) (i : ℕ) {f : Form} → getD u (i * 4) 0 % 32 ≡ getD t (i * 4) 0 % 32 → Keeps t u (i * 4 + 1) (i * 4 + 4) → (S.kindAt t i % 32 ≡ 5 → ⊥) → (S.kindAt t i % 32 ≡ 4 → ⊥) → IsForm f → S.Row t C n i f → LinkedRow u C n root i f
 row-of t u i h s x y g (S.row-op {o = o} a b c) = let z = code-below o in row-op {o = o} (kind-is t u i 1 (omega arith) h a) (omega (arith, s .keep (i * 4 + 2) (omega arith) (omega arith)))
 row-of t u i h s x y g (S.row-select {k = k} a b c) = row-select {k = k} (kind-is t u i 2 (omega arith) h a) (omega (arith, g .1, s .keep (i * 4 + 2) (omega arith) (omega arith)))
 row-of t u i h s x y g (S.row-selectRight {k = k} a b c) = row-select-right {k = k} (kind-is t u i 3 (omega arith) h a) (omega (arith, g .1, s .keep (i * 4 + 2) (omega arith) (omega arith)))

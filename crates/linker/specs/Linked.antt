@@ -20,8 +20,8 @@ use Rattle.lexer.specs.Vocabulary.{opCode}
 unfoldable pub grouped : ℕ → ℕ
 grouped k = cond (ltb k 12) k (cond (ltb k 16) 12 (cond (ltb k 20) 16 k))
 
-abbrev pub kindAt : List ℕ → ℕ → ℕ
-kindAt F i = grouped (getD F (i * 4) 0 % 32)
+abbrev pub linkedKindAt : List ℕ → ℕ → ℕ
+linkedKindAt F i = grouped (getD F (i * 4) 0 % 32)
 
 abbrev pub linkAt : List ℕ → ℕ → ℕ
 linkAt F i = getD F (i * 4) 0 / 32
@@ -48,7 +48,7 @@ mutual
     is-bu : {i : ℕ} {f : Form} {x : Obj} → FormAt F C n root (i + 1) f → Rep C n (constantAt F i) x → FormIs F C n root 16 i (bu f x)
 
   pub data FormAt (F C : List ℕ) (n : ℕ) (root : List ℕ → ℕ) : ℕ → Form → Type 0 where
-    form-at : {i κ : ℕ} {f : Form} → i < 2048 → kindAt F i ≡ κ → FormIs F C n root κ i f → FormAt F C n root i f
+    form-at : {i κ : ℕ} {f : Form} → i < 2048 → linkedKindAt F i ≡ κ → FormIs F C n root κ i f → FormAt F C n root i f
 
   -- forms from record j on, along the links
   pub data PartsAt (F C : List ℕ) (n : ℕ) (root : List ℕ → ℕ) : ℕ → Forms → Type 0 where

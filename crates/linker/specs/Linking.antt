@@ -12,29 +12,29 @@ use Rattle.cells.specs.Cells.{Rep}
 use Rattle.lexer.specs.Vocabulary.{opCode}
 use Rattle.formtable.specs.Standing as S
 use Rattle.formtable.specs.Standing.{parts}
-use Rattle.linker.specs.Linked.{kindAt, linkAt, constantAt}
+use Rattle.linker.specs.Linked.{linkedKindAt, linkAt, constantAt}
 use Rattle.linker.specs.Roots.{rootIn}
 use Rattle.linker.specs.declared.Turned.{Turned}
 
 -- what a linked record says of a form that is no chain
-pub data Row (F C : List ℕ) (n : ℕ) (root : List ℕ → ℕ) (i : ℕ) : Form → Type 0 where
-  row-op : {o : Op} → kindAt F i ≡ 1 → field F i 2 ≡ opCode o → Row F C n root i (word (op o))
-  row-select : {k : ℕ} → kindAt F i ≡ 2 → field F i 2 ≡ k → Row F C n root i (word (select k))
-  row-select-right : {k : ℕ} → kindAt F i ≡ 3 → field F i 2 ≡ k → Row F C n root i (word (selectRight k))
-  row-name : {w : List ℕ} → IsName w → kindAt F i ≡ 4 → field F i 1 ≡ root w → Row F C n root i (name w)
-  row-construct : {fs : Forms} → kindAt F i ≡ 6 → field F i 1 ≡ count fs → Row F C n root i (construct fs)
-  row-insert : {f : Form} → kindAt F i ≡ 7 → Row F C n root i (insert f)
-  row-all : {f : Form} → kindAt F i ≡ 8 → Row F C n root i (applyAll f)
-  row-condition : {p f g : Form} → kindAt F i ≡ 9 → Row F C n root i (condition p f g)
-  row-while : {p f : Form} → kindAt F i ≡ 10 → Row F C n root i (while p f)
-  row-constant : {x : Obj} → kindAt F i ≡ 12 → Rep C n (constantAt F i) x → Row F C n root i (constant x)
-  row-bu : {f : Form} {x : Obj} → kindAt F i ≡ 16 → Rep C n (constantAt F i) x → Row F C n root i (bu f x)
+pub data LinkedRow (F C : List ℕ) (n : ℕ) (root : List ℕ → ℕ) (i : ℕ) : Form → Type 0 where
+  row-op : {o : Op} → linkedKindAt F i ≡ 1 → field F i 2 ≡ opCode o → LinkedRow F C n root i (word (op o))
+  row-select : {k : ℕ} → linkedKindAt F i ≡ 2 → field F i 2 ≡ k → LinkedRow F C n root i (word (select k))
+  row-select-right : {k : ℕ} → linkedKindAt F i ≡ 3 → field F i 2 ≡ k → LinkedRow F C n root i (word (selectRight k))
+  row-name : {w : List ℕ} → IsName w → linkedKindAt F i ≡ 4 → field F i 1 ≡ root w → LinkedRow F C n root i (name w)
+  row-construct : {fs : Forms} → linkedKindAt F i ≡ 6 → field F i 1 ≡ count fs → LinkedRow F C n root i (construct fs)
+  row-insert : {f : Form} → linkedKindAt F i ≡ 7 → LinkedRow F C n root i (insert f)
+  row-all : {f : Form} → linkedKindAt F i ≡ 8 → LinkedRow F C n root i (applyAll f)
+  row-condition : {p f g : Form} → linkedKindAt F i ≡ 9 → LinkedRow F C n root i (condition p f g)
+  row-while : {p f : Form} → linkedKindAt F i ≡ 10 → LinkedRow F C n root i (while p f)
+  row-constant : {x : Obj} → linkedKindAt F i ≡ 12 → Rep C n (constantAt F i) x → LinkedRow F C n root i (constant x)
+  row-bu : {f : Form} {x : Obj} → linkedKindAt F i ≡ 16 → Rep C n (constantAt F i) x → LinkedRow F C n root i (bu f x)
 
 mutual
   -- a form in the records from i up to e
   pub data Tree (F C : List ℕ) (n : ℕ) (root : List ℕ → ℕ) : ℕ → Form → ℕ → Type 0 where
-    tree : {i e : ℕ} {f : Form} → i < 2048 → Row F C n root i f → Kids F C n root (i + 1) (parts f) e → Tree F C n root i f e
-    tree-chain : {i e : ℕ} {fs : Forms} → i < 2048 → kindAt F i ≡ 5 → Back F C n root 0 (i + 1) fs e (field F i 2) → Tree F C n root i (chain fs) e
+    tree : {i e : ℕ} {f : Form} → i < 2048 → LinkedRow F C n root i f → Kids F C n root (i + 1) (parts f) e → Tree F C n root i f e
+    tree-chain : {i e : ℕ} {fs : Forms} → i < 2048 → linkedKindAt F i ≡ 5 → Back F C n root 0 (i + 1) fs e (field F i 2) → Tree F C n root i (chain fs) e
 
   -- forms from j up to e, one behind the other, each leading to what follows it
   pub data Kids (F C : List ℕ) (n : ℕ) (root : List ℕ → ℕ) : ℕ → Forms → ℕ → Type 0 where

@@ -1,6 +1,6 @@
 -- A run's contract allows one result only.
-use mathlib.Core.Path.{_≡_, sym, _∙_}
-use Rattle.nattglod.specs.Calls.{RunAnswered, RunDetermined}
+use mathlib.Core.Path.{sym, _∙_}
+use Rattle.nattglod.specs.Calls.{RunDetermined}
 
 pub run-determined : RunDetermined
 run-determined program object b lent r r′ forms forms′ cells cells′ output output′ p q =

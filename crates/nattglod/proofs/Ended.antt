@@ -3,7 +3,7 @@ use Prim.Native.Nat.{ℕ, _-_}
 use mathlib.Core.Path.{_≡_, refl}
 use mathlib.Core.List.{List}
 use Rattle.language.specs.Objects.{Obj}
-use Rattle.language.specs.Evaluation.{Out, noStep, noName, noCell, counted}
+use Rattle.language.specs.Evaluation.{Out, noStep, noName, noCell}
 use Rattle.language.specs.Answers.{counting}
 use Rattle.language.specs.declared.Meter.{Meter}
 use Rattle.language.specs.declared.Answer.{Answer}

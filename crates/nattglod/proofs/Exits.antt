@@ -13,10 +13,10 @@ use Rattle.language.specs.Reading.{Got, got, no, readObject, readProgram}
 use Rattle.language.specs.Writing.{writeObj, Scan, on, short, deep, scan}
 use Rattle.language.specs.Numbers.{one}
 use Rattle.language.specs.Evaluation.{apply, RunEnd, done, fell, ranOut, tooFew, counted, run}
-use Rattle.language.specs.Answers.{Lent, Outcome, bare, at, untouched, zeroed, roomIn, scanned, ended, onRead, runCall}
+use Rattle.language.specs.Answers.{Lent, Outcome, bare, at, untouched, roomIn, scanned, ended, onRead, runCall}
 use Rattle.language.specs.declared.Meter.{Meter}
 use Rattle.language.specs.declared.Answer.{Answer}
-use Rattle.nattglod.specs.Calls.{budgets, lends, RunAnswered, earlyRefusal, Sized, onTexts, TextsAnswered, EndAnswered}
+use Rattle.nattglod.specs.Calls.{budgets, lends, RunAnswered, earlyRefusal, WithinLimits, onTexts, TextsAnswered, EndAnswered}
 
 -- ---- 1 to 5, or none of them
 module _ (program object : List ℕ) (b : Meter) (lent : Lent) where
@@ -49,7 +49,7 @@ neither : (s t : Bool) → (s || t) ≡ false → (s ≡ false) × (t ≡ false)
 neither true t e = let z : _≡_ {A = ℕ} 0 1 = cc in absurd (omega arith)
 neither false t e = (refl, e)
 
-sized : (program object : ℕ) (b : Meter) (forms cells : ℕ) → earlyRefusal program object b forms cells ≡ 0 → Sized program object b forms cells
+sized : (program object : ℕ) (b : Meter) (forms cells : ℕ) → earlyRefusal program object b forms cells ≡ 0 → WithinLimits program object b forms cells
 unfolding earlyRefusal
 sized program object b forms cells e =
     let h₁ = no-early (ltb 8192 program) 0 _ e in
@@ -103,7 +103,7 @@ module _ (program object : List ℕ) (b : Meter) (forms cells output : List ℕ)
       record { answer = a ∙ ap (λ (x : Outcome). x .answer) (sym o); formsAfter = ap (λ (x : Outcome). x .lent .forms) (sym o); cellsAfter = ap (λ (x : Outcome). x .lent .cells) (sym o); outputAfter = ap (λ (x : Outcome). x .lent .output) (sym o) }
 
   module _ (none : k ≡ 0) where
-    pub run-sized : Sized (length program) (length object) b (length forms) (length cells)
+    pub run-sized : WithinLimits (length program) (length object) b (length forms) (length cells)
     run-sized = sized (length program) (length object) b (length forms) (length cells) (sym is-early ∙ none)
 
     pub run-texts : {r : Answer} (forms₁ cells₁ : List ℕ) {forms₂ cells₂ output₂ : List ℕ} → TextsAnswered program object b (lends forms cells output) r output₂ → length forms₁ ≡ length forms → length cells₁ ≡ length cells

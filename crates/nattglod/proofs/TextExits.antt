@@ -24,7 +24,7 @@ use Rattle.programs.specs.declared.ProgramRead.the-variants as P
 use Rattle.programs.specs.Definitions.{ProgramLaid, ProgramMet, program-read, program-refused}
 use Rattle.primitives.specs.declared.Ended.{Ended}
 use Rattle.program_runner.specs.Mains.{MainApplied}
-use Rattle.nattglod.specs.Calls.{lends, Sized, TextsAnswered}
+use Rattle.nattglod.specs.Calls.{lends, WithinLimits, TextsAnswered}
 use Rattle.nattglod.specs.Stages.{Small, withoutCells, ObjectAnswered, MainAnswered, EndMet}
 use Rattle.nattglod.proofs.Exits as Exits
 use Rattle.nattglod.proofs.Standing.{room-left, object-stands, program-loaded}
@@ -118,7 +118,7 @@ module _ {program t u d : List ℕ} {q : ProgramRead} {T C D : List ℕ} (M : Pr
     g : GotProgram program t u d k n c T C D (readProgram program)
     g = program-got M z
 
-    pub program-small : {object : ℕ} {b : Meter} → Sized (length program) object b (length t) (length u) → length T ≡ length t → Small object b (length T) n k (length C) c
+    pub program-small : {object : ℕ} {b : Meter} → WithinLimits (length program) object b (length t) (length u) → length T ≡ length t → Small object b (length T) n k (length C) c
     program-small S i =
         let w = programs-read program (g .program) (g .ends) (g .is) .wellFormed in
         let l = few-constants program (g .program) (g .ends) (S .shortProgram) (g .is) in

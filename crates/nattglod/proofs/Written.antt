@@ -5,10 +5,10 @@ use mathlib.Core.List.{List}
 use native.Mathlib.Omega.{arith}
 use Rattle.language.specs.Objects.{Obj}
 use Rattle.language.specs.Writing.{writeObj, Scan}
-use Rattle.language.specs.Answers.{counting, scanned, writing}
+use Rattle.language.specs.Answers.{counting, scanned}
 use Rattle.language.specs.declared.Answer.{Answer}
 use Rattle.language.specs.declared.Val.{Val}
-use Rattle.objects.specs.Writings.{Outcome, done, no-room, no-mark, ObjectWritten}
+use Rattle.objects.specs.Writings.{ObjectEnd, object-written, no-room, no-mark, ObjectWritten}
 use Rattle.objects.specs.declared.Written.{Written}
 use Rattle.objects.specs.declared.Written.the-variants as W
 use Rattle.nattglod.specs.Calls.{lends}
@@ -21,14 +21,14 @@ numbered s c W.Short = counting 25 s c 0
 numbered s c W.Deep = counting 26 s c 0
 
 module _ (forms cells output output′ : List ℕ) (s c : ℕ) (x : Obj) {r : Written} where
-  is-numbered : {w : Scan} → Outcome (writeObj x) r output output′ w → numbered s c r ≡ scanned (lends forms cells output) s c x w .answer
+  is-numbered : {w : Scan} → ObjectEnd (writeObj x) r output output′ w → numbered s c r ≡ scanned (lends forms cells output) s c x w .answer
   unfolding numbered
-  is-numbered (done e o) = ap (numbered s c) e
+  is-numbered (object-written e o) = ap (numbered s c) e
   is-numbered (no-room e o) = ap (numbered s c) e
   is-numbered (no-mark e o) = ap (numbered s c) e
 
-  is-output : {w : Scan} → Outcome (writeObj x) r output output′ w → output′ ≡ scanned (lends forms cells output) s c x w .lent .output
-  is-output (done e o) = o
+  is-output : {w : Scan} → ObjectEnd (writeObj x) r output output′ w → output′ ≡ scanned (lends forms cells output) s c x w .lent .output
+  is-output (object-written e o) = o
   is-output (no-room e o) = o
   is-output (no-mark e o) = o
 

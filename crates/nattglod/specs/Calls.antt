@@ -1,5 +1,5 @@
 -- A run call: what it answers and leaves in the lent buffers, and the parts that its code is made of.
-use Prim.Native.Nat.{ℕ, _*_, _≤_}
+use Prim.Native.Nat.{ℕ, _≤_}
 use mathlib.Core.Path.{_≡_}
 use mathlib.Core.Bool.{cond, _||_, not}
 use mathlib.Core.List.{List}
@@ -41,7 +41,7 @@ earlyRefusal program object b forms cells =
     (cond (ltb cellLimit (b .cells) || not (eqb forms formTableSize) || not (eqb cells (cellTableSize (b .cells)))) 5 0))))
 
 -- what holds where it is 0
-pub record Sized (program object : ℕ) (b : Meter) (forms cells : ℕ) : Type 0 where
+pub record WithinLimits (program object : ℕ) (b : Meter) (forms cells : ℕ) : Type 0 where
   pub shortProgram : program ≤ programLimit
   pub shortObject : object ≤ objectLimit
   pub fewSteps : b .steps ≤ stepLimit

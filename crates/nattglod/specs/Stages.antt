@@ -1,5 +1,5 @@
 -- The stages of a run call, each from what the stage before it left in the tables.
-use Prim.Native.Nat.{ℕ, _-_, _*_, _≤_, _<_}
+use Prim.Native.Nat.{ℕ, _-_, _≤_, _<_}
 use mathlib.Core.Path.{_≡_}
 use mathlib.Core.Bool.{cond, _||_, not}
 use mathlib.Core.List.{List}

@@ -1,6 +1,5 @@
 // The calls themselves: 1 to 5 touch nothing, and after all other answers both tables are zero throughout.
 ghost use mathlib.Core.Path.{_≡_};
-ghost use lib.ListN.{length};
 ghost use Rattle.nattglod.specs.Calls.{budgets, lends, RunAnswered, earlyRefusal};
 ghost use Rattle.nattglod.specs.Stages.{tableRefusal};
 use super::answers;

@@ -2,7 +2,7 @@
 ghost use Prim.Native.Nat.{_≤_};
 ghost use mathlib.Core.Path.{_≡_};
 ghost use lib.ListN.{length};
-ghost use Rattle.nattglod.specs.Calls.{lends, Sized, TextsAnswered};
+ghost use Rattle.nattglod.specs.Calls.{lends, WithinLimits, TextsAnswered};
 ghost use Rattle.nattglod.specs.Stages.{Small, MainAnswered, ObjectAnswered};
 use super::answers;
 use super::ends;
@@ -72,7 +72,7 @@ fn answer_program(
     definitions: &mut [u32],
     output: &mut [u8],
 ) -> Answer
-    requires { ⌜ Sized (length (now program)) (length (now object)) b (length (now forms)) (length (now c)) ⌝ }
+    requires { ⌜ WithinLimits (length (now program)) (length (now object)) b (length (now forms)) (length (now c)) ⌝ }
     requires { ⌜ length (now definitions) ≡ 512 ⌝ }
     ensures { λ r. ⌜ TextsAnswered (now (program .entry)) (now (object .entry)) b (lends (now (forms .entry)) (now (c .entry)) (now (output .entry))) r (now (output .exit)) ⌝ }
 {
@@ -108,7 +108,7 @@ pub fn answer_texts(
     c: &mut [u32],
     output: &mut [u8],
 ) -> Answer
-    requires { ⌜ Sized (length (now program)) (length (now object)) b (length (now forms)) (length (now c)) ⌝ }
+    requires { ⌜ WithinLimits (length (now program)) (length (now object)) b (length (now forms)) (length (now c)) ⌝ }
     ensures { λ r. ⌜ TextsAnswered (now (program .entry)) (now (object .entry)) b (lends (now (forms .entry)) (now (c .entry)) (now (output .entry))) r (now (output .exit)) ⌝ }
 {
     let mut definitions = definition_table();

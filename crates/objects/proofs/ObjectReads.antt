@@ -91,12 +91,12 @@ atom-meets C used x v e h f =
     reads {x = x} {e = e} (ap (λ (y : Val). O.Got y e used) (f ∙ atom-val x used h) ∙ ap (λ (m : ℕ). O.Got (valOf used x) e m) n)
     (λ room. rw (atom-none x used h) (sym (put-none C (used * 4))))
 
-judged : {s : List ℕ} {p n : ℕ} {j : AtomJudged} → L.Sized s p n → j ≡ atomJudged (judgeAtom (slice p (p + n) s)) → (R : Judged Obj → Type 0) → ((w : List ℕ) (J : Judged Obj) → MeetsWord (IsAtomIn (length w)) J → j ≡ atomJudged J → R J) → R (judgeAtom (wordAt s p))
+judged : {s : List ℕ} {p n : ℕ} {j : AtomJudged} → L.WordSized s p n → j ≡ atomJudged (judgeAtom (slice p (p + n) s)) → (R : Judged Obj → Type 0) → ((w : List ℕ) (J : Judged Obj) → MeetsWord (IsAtomIn (length w)) J → j ≡ atomJudged J → R J) → R (judgeAtom (wordAt s p))
 judged {s} {p} {n} z h R f =
     let m = z .is in
     rw (← m) (f (slice p (p + n) s) (judgeAtom (slice p (p + n) s)) (judged-atom (slice p (p + n) s)) h)
 
-module _ {s : List ℕ} {p used n : ℕ} (z : L.Sized s p n) where
+module _ {s : List ℕ} {p used n : ℕ} (z : L.WordSized s p n) where
   pub atom-empty : n ≡ 0 → AtomReading s p used (O.No 6 p)
   unfolding judgeAtom
   atom-empty e =

@@ -13,7 +13,7 @@ use Rattle.language.specs.Judging.{all}
 use Rattle.language.specs.Writing.{Scan, on, short, deep, openBehind, scan}
 use Rattle.tables.specs.Tables.{put}
 use Rattle.tables.proofs.Put.{put-after}
-use Rattle.objects.specs.Writings.{Walked, fits, too-long, too-deep, Within, PutByte, isFlat}
+use Rattle.objects.specs.Writings.{WalkedText, fits, too-long, too-deep, Within, PutByte, isFlat}
 use Rattle.objects.specs.declared.Written.{Written}
 use Rattle.objects.specs.declared.Written.the-variants as W
 
@@ -90,18 +90,18 @@ flat-short (b ∷ a) d r h e =
 
 -- ---- one text behind another
 module _ {a : List ℕ} (b : List ℕ) {d d₁ : ℕ} (d₂ : ℕ) {at cap : ℕ} {r r₂ : Written} {out out₁ out₂ : List ℕ} where
-  pub walk-short : Walked a d d₁ at cap r out out₁ → r ≡ W.Short → r₂ ≡ W.Short → Walked (a ++ b) d d₂ at cap r₂ out out₂
+  pub walk-short : WalkedText a d d₁ at cap r out out₁ → r ≡ W.Short → r₂ ≡ W.Short → WalkedText (a ++ b) d d₂ at cap r₂ out out₂
   walk-short (fits e l s p) h g = let z : _≡_ {A = ℕ} 0 1 = cc in absurd (omega arith)
   walk-short (too-long e s) h g = too-long g (scan-append a b d (cap - at) ∙ rw s)
   walk-short (too-deep e s) h g = let z : _≡_ {A = ℕ} 0 1 = cc in absurd (omega arith)
 
-  pub walk-deep : Walked a d d₁ at cap r out out₁ → r ≡ W.Deep → r₂ ≡ W.Deep → Walked (a ++ b) d d₂ at cap r₂ out out₂
+  pub walk-deep : WalkedText a d d₁ at cap r out out₁ → r ≡ W.Deep → r₂ ≡ W.Deep → WalkedText (a ++ b) d d₂ at cap r₂ out out₂
   walk-deep (fits e l s p) h g = let z : _≡_ {A = ℕ} 0 1 = cc in absurd (omega arith)
   walk-deep (too-long e s) h g = let z : _≡_ {A = ℕ} 0 1 = cc in absurd (omega arith)
   walk-deep (too-deep e s) h g = too-deep g (scan-append a b d (cap - at) ∙ rw s)
 
 module _ {a b : List ℕ} {d d₁ d₂ at cap : ℕ} {r r₂ : Written} {out out₁ out₂ : List ℕ} where
-  pub walk-then : {e : ℕ} → Walked a d d₁ at cap r out out₁ → r ≡ W.Done e → length out₁ ≡ length out → Walked b d₁ d₂ e cap r₂ out₁ out₂ → Walked (a ++ b) d d₂ at cap r₂ out out₂
+  pub walk-then : {e : ℕ} → WalkedText a d d₁ at cap r out out₁ → r ≡ W.Done e → length out₁ ≡ length out → WalkedText b d₁ d₂ e cap r₂ out₁ out₂ → WalkedText (a ++ b) d d₂ at cap r₂ out out₂
   walk-then {e} (too-long f s) h n w = let z : _≡_ {A = ℕ} 0 1 = cc in absurd (omega arith)
   walk-then {e} (too-deep f s) h n w = let z : _≡_ {A = ℕ} 0 1 = cc in absurd (omega arith)
   walk-then {e} (fits f l s p) h n w = go e (cc) w
@@ -109,7 +109,7 @@ module _ {a b : List ℕ} {d d₁ d₂ at cap : ℕ} {r r₂ : Written} {out out
       whole : at + length (a ++ b) ≡ at + length a + length b
       whole = rw length-append (omega arith)
 
-      go : (e : ℕ) → e ≡ at + length a → Walked b d₁ d₂ e cap r₂ out₁ out₂ → Walked (a ++ b) d d₂ at cap r₂ out out₂
+      go : (e : ℕ) → e ≡ at + length a → WalkedText b d₁ d₂ e cap r₂ out₁ out₂ → WalkedText (a ++ b) d d₂ at cap r₂ out out₂
       go e i (too-long f₂ s₂) = too-long f₂ (scan-append a b d (cap - at) ∙ rw (s, ← i) s₂)
       go e i (too-deep f₂ s₂) = too-deep f₂ (scan-append a b d (cap - at) ∙ rw (s, ← i) s₂)
       go e i (fits f₂ l₂ s₂ p₂) =
@@ -119,28 +119,28 @@ module _ {a b : List ℕ} {d d₁ d₂ at cap : ℕ} {r r₂ : Written} {out out
 
 -- ---- bytes that open and close nothing
 module _ {text : List ℕ} {at cap : ℕ} {r : Written} {out out′ : List ℕ} where
-  pub flat-long : at ≤ cap → cap - at < length text → r ≡ W.Short → (d : ℕ) → all isFlat text ≡ true → Walked text d d at cap r out out′
+  pub flat-long : at ≤ cap → cap - at < length text → r ≡ W.Short → (d : ℕ) → all isFlat text ≡ true → WalkedText text d d at cap r out out′
   flat-long l h e d f = too-long e (flat-short text d (cap - at) f h)
 
-  pub flat-walk : at ≤ cap → length text ≤ cap - at → r ≡ W.Done (at + length text) → (at + length text ≤ length out → out′ ≡ put out at text) → (d : ℕ) → all isFlat text ≡ true → Walked text d d at cap r out out′
+  pub flat-walk : at ≤ cap → length text ≤ cap - at → r ≡ W.Done (at + length text) → (at + length text ≤ length out → out′ ≡ put out at text) → (d : ℕ) → all isFlat text ≡ true → WalkedText text d d at cap r out out′
   flat-walk l h e p d f = fits e (omega arith) (flat-fits text d (cap - at) f h ∙ ap (λ (x : ℕ). on d x) (omega arith)) p
 
 -- ---- marks
 module _ {at cap : ℕ} {r : Written} {out out′ : List ℕ} where
-  pub mark-long : (b : ℕ) (rest : List ℕ) (d d′ : ℕ) → at ≡ cap → r ≡ W.Short → (b ≡ 60 → ⊥) → Walked (b ∷ rest) d d′ at cap r out out′
+  pub mark-long : (b : ℕ) (rest : List ℕ) (d d′ : ℕ) → at ≡ cap → r ≡ W.Short → (b ≡ 60 → ⊥) → WalkedText (b ∷ rest) d d′ at cap r out out′
   mark-long b rest d d′ l e o = too-long e (scan-out b rest d (cap - at) o (omega arith))
 
-  pub mark-walk : (b d : ℕ) → at < cap → r ≡ W.Done (at + 1) → PutByte out at b out′ → (b ≡ 60 → ⊥) → Walked (b ∷ []) d (openBehind b d) at cap r out out′
+  pub mark-walk : (b d : ℕ) → at < cap → r ≡ W.Done (at + 1) → PutByte out at b out′ → (b ≡ 60 → ⊥) → WalkedText (b ∷ []) d (openBehind b d) at cap r out out′
   unfolding scan
   mark-walk b d l e p o = fits e (omega arith) (scan-next b [] d (cap - at) o (omega arith) ∙ ap (λ (x : ℕ). on (openBehind b d) x) (omega arith)) (p .is)
 
-  pub open-deep : (rest : List ℕ) (d d′ : ℕ) → 32 ≤ d → r ≡ W.Deep → Walked (60 ∷ rest) d d′ at cap r out out′
+  pub open-deep : (rest : List ℕ) (d d′ : ℕ) → 32 ≤ d → r ≡ W.Deep → WalkedText (60 ∷ rest) d d′ at cap r out out′
   open-deep rest d d′ h e = too-deep e (scan-deep rest d (cap - at) h)
 
-  pub open-long : (rest : List ℕ) (d d′ : ℕ) → d < 32 → at ≡ cap → r ≡ W.Short → Walked (60 ∷ rest) d d′ at cap r out out′
+  pub open-long : (rest : List ℕ) (d d′ : ℕ) → d < 32 → at ≡ cap → r ≡ W.Short → WalkedText (60 ∷ rest) d d′ at cap r out out′
   open-long rest d d′ h l e = too-long e (scan-full rest d (cap - at) h (omega arith))
 
-  pub open-walk : (d : ℕ) → d < 32 → at < cap → r ≡ W.Done (at + 1) → PutByte out at 60 out′ → Walked (60 ∷ []) d (d + 1) at cap r out out′
+  pub open-walk : (d : ℕ) → d < 32 → at < cap → r ≡ W.Done (at + 1) → PutByte out at 60 out′ → WalkedText (60 ∷ []) d (d + 1) at cap r out out′
   unfolding scan
   open-walk d h l e p = fits e (omega arith) (scan-open [] d (cap - at) h (omega arith) ∙ ap (λ (x : ℕ). on (d + 1) x) (omega arith)) (p .is)
 

@@ -9,7 +9,6 @@ use lib.ListN.{length, drop, take}
 use lib.Seq.{slice, length-slice, take-all, length-take-le}
 use Rattle.language.specs.Objects.{Obj, seq, Objs, nil, _::_, lengthOf}
 use Rattle.language.specs.Tokens.{isDigit}
-use Rattle.language.specs.Judging.{all}
 use Rattle.language.specs.Writing.{decimal, writeInteger, writeObj, writeObjs, Scan, on, short, deep, scan, openBehind}
 use Rattle.language.specs.declared.Val.{Val}
 use Rattle.theorems.proofs.Texts.{all-weaken, digit-range}
@@ -17,7 +16,7 @@ use Rattle.theorems.proofs.Decimals.{decimal-digits}
 use Rattle.tables.specs.Tables.{put}
 use Rattle.cells.specs.Cells.{Rep, rep-pos, rep-neg, rep-symbol, rep-nil, rep-more}
 use Rattle.cells.specs.Parts.{Sized, Headed, Tailed}
-use Rattle.objects.specs.Writings.{DigitsAt, PutByte, PutText, Walked, fits, too-long, too-deep, isFlat, TextWalked, MarkWalked, DecimalWalked, SymbolWalked, AtomWalked, ObjectWalked, PlaceWalked, PlacesWalked, outputRoom, Outcome, done, no-room, no-mark, ObjectWritten}
+use Rattle.objects.specs.Writings.{DigitsAt, PutByte, PutText, WalkedText, fits, too-long, too-deep, isFlat, TextWalked, MarkWalked, DecimalWalked, SymbolWalked, AtomWalked, ObjectWalked, PlaceWalked, PlacesWalked, outputRoom, ObjectEnd, object-written, no-room, no-mark, ObjectWritten}
 use Rattle.objects.specs.declared.Written.{Written}
 use Rattle.objects.specs.declared.Written.the-variants as W
 use Rattle.objects.proofs.Walks.{flat-is, walk-short, walk-deep, walk-then, flat-long, flat-walk, mark-long, mark-walk, open-deep, open-long, open-walk, within-short, within-deep, within-done, within-later}
@@ -53,7 +52,7 @@ module _ {v : Val} {at cap : ℕ} where
   unfolding writeObj
   atom-symbol {r} {out} {out′} t w = record { within = w .within; means = λ d C n x o rep. go d C n x rep }
     where
-      go : (d : ℕ) (C : List ℕ) (n : ℕ) (x : Obj) → Rep C n v x → Walked (writeObj x) d d at cap r out out′
+      go : (d : ℕ) (C : List ℕ) (n : ℕ) (x : Obj) → Rep C n v x → WalkedText (writeObj x) d d at cap r out out′
       go d C n x (rep-pos e f l) = absurd (omega arith)
       go d C n x (rep-neg e f l) = absurd (omega arith)
       go d C n x (rep-symbol {w = s} e i f) = w .means d s i f
@@ -64,7 +63,7 @@ module _ {v : Val} {at cap : ℕ} where
   unfolding writeObj writeInteger
   atom-number {r} {out} {out′} t w = record { within = w .within; means = λ d C n x o rep. go d C n x rep }
     where
-      go : (d : ℕ) (C : List ℕ) (n : ℕ) (x : Obj) → Rep C n v x → Walked (writeObj x) d d at cap r out out′
+      go : (d : ℕ) (C : List ℕ) (n : ℕ) (x : Obj) → Rep C n v x → WalkedText (writeObj x) d d at cap r out out′
       go d C n x (rep-pos e f l) = rw f at (w .means d)
       go d C n x (rep-neg e f l) = absurd (omega arith)
       go d C n x (rep-symbol e i f) = absurd (omega arith)
@@ -75,7 +74,7 @@ module _ {v : Val} {at cap : ℕ} where
   unfolding writeObj writeInteger
   atom-full {out} {out′} t u l = record { within = within-short refl; means = λ d C n x o rep. go d C n x o rep }
     where
-      go : (d : ℕ) (C : List ℕ) (n : ℕ) (x : Obj) → (v .tag ≡ 3 → ⊥) → Rep C n v x → Walked (writeObj x) d d at cap W.Short out out′
+      go : (d : ℕ) (C : List ℕ) (n : ℕ) (x : Obj) → (v .tag ≡ 3 → ⊥) → Rep C n v x → WalkedText (writeObj x) d d at cap W.Short out out′
       go d C n x o (rep-pos e f _) = absurd (u e)
       go d C n x o (rep-neg {k = k} e f _) = mark-long 45 (decimal (suc k)) d d l refl (λ z. omega arith)
       go d C n x o (rep-symbol e i f) = absurd (t e)
@@ -89,7 +88,7 @@ module _ {v : Val} {at cap : ℕ} where
       l : at < cap
       l = omega arith
 
-      go : (d : ℕ) (C : List ℕ) (n : ℕ) (x : Obj) → (v .tag ≡ 3 → ⊥) → Rep C n v x → Walked (writeObj x) d d at cap r out out₂
+      go : (d : ℕ) (C : List ℕ) (n : ℕ) (x : Obj) → (v .tag ≡ 3 → ⊥) → Rep C n v x → WalkedText (writeObj x) d d at cap r out out₂
       go d C m x o (rep-pos e f _) = absurd (u e)
       go d C m x o (rep-neg {k = j} e f b) =
           let s : k ≡ suc j = omega arith in
@@ -113,17 +112,17 @@ module _ {C : List ℕ} {v : Val} {at cap opened : ℕ} where
 
   pub obj-deep : {out out′ : List ℕ} → v .tag ≡ 3 → 32 ≤ opened → ObjectWalked C v at cap opened W.Deep out out′
   unfolding writeObj
-  obj-deep {out} {out′} t h = record { within = within-deep refl; means = sequence-is (λ x. Walked (writeObj x) opened opened at cap W.Deep out out′) t (λ n xs u rep. open-deep (writeObjs xs) opened opened h refl) }
+  obj-deep {out} {out′} t h = record { within = within-deep refl; means = sequence-is (λ x. WalkedText (writeObj x) opened opened at cap W.Deep out out′) t (λ n xs u rep. open-deep (writeObjs xs) opened opened h refl) }
 
   pub obj-full : {out out′ : List ℕ} → v .tag ≡ 3 → opened < 32 → at ≡ cap → ObjectWalked C v at cap opened W.Short out out′
   unfolding writeObj
-  obj-full {out} {out′} t h l = record { within = within-short refl; means = sequence-is (λ x. Walked (writeObj x) opened opened at cap W.Short out out′) t (λ n xs u rep. open-long (writeObjs xs) opened opened h l refl) }
+  obj-full {out} {out′} t h l = record { within = within-short refl; means = sequence-is (λ x. WalkedText (writeObj x) opened opened at cap W.Short out out′) t (λ n xs u rep. open-long (writeObjs xs) opened opened h l refl) }
 
   pub obj-empty : {k : ℕ} {r : Written} {out out₁ out₂ : List ℕ} → v .tag ≡ 3 → opened < 32 → at ≤ cap → (at ≡ cap → ⊥) → PutByte out at 60 out₁ → length out₁ ≡ length out → Sized v k → k ≡ 0 → MarkWalked 62 (at + 1) cap r out₁ out₂ → ObjectWalked C v at cap opened r out out₂
   unfolding writeObj
   obj-empty {k} {r} {out} {out₁} {out₂} t h le ne p n s z w = record {
     within = within-later (omega arith) (w .within);
-    means = sequence-is (λ x. Walked (writeObj x) opened opened at cap r out out₂) t (λ m xs u rep. go m xs u rep (s .means C m xs u rep));
+    means = sequence-is (λ x. WalkedText (writeObj x) opened opened at cap r out out₂) t (λ m xs u rep. go m xs u rep (s .means C m xs u rep));
   }
     where
       back : opened + 1 - 1 ≡ opened
@@ -132,7 +131,7 @@ module _ {C : List ℕ} {v : Val} {at cap opened : ℕ} where
       l : at < cap
       l = omega arith
 
-      go : (m : ℕ) (xs : Objs) → m < 4294967296 → Rep C m v (seq xs) → k ≡ lengthOf xs → Walked (writeObj (seq xs)) opened opened at cap r out out₂
+      go : (m : ℕ) (xs : Objs) → m < 4294967296 → Rep C m v (seq xs) → k ≡ lengthOf xs → WalkedText (writeObj (seq xs)) opened opened at cap r out out₂
       go m nil u rep e = walk-then (open-walk opened h l refl p) refl n (rw back at (w .means (opened + 1) (λ q. omega arith)))
       go m (x :: xs) u rep e = absurd (omega arith)
 
@@ -140,7 +139,7 @@ module _ {C : List ℕ} {v : Val} {at cap opened : ℕ} where
   unfolding writeObj
   obj-places {k} {r} {out} {out₁} {out₂} t h le ne p n s z w = record {
     within = within-later (omega arith) (w .within);
-    means = sequence-is (λ x. Walked (writeObj x) opened opened at cap r out out₂) t (λ m xs u rep. go m xs u rep (s .means C m xs u rep));
+    means = sequence-is (λ x. WalkedText (writeObj x) opened opened at cap r out out₂) t (λ m xs u rep. go m xs u rep (s .means C m xs u rep));
   }
     where
       back : opened + 1 - 1 ≡ opened
@@ -149,7 +148,7 @@ module _ {C : List ℕ} {v : Val} {at cap opened : ℕ} where
       l : at < cap
       l = omega arith
 
-      go : (m : ℕ) (xs : Objs) → m < 4294967296 → Rep C m v (seq xs) → k ≡ lengthOf xs → Walked (writeObj (seq xs)) opened opened at cap r out out₂
+      go : (m : ℕ) (xs : Objs) → m < 4294967296 → Rep C m v (seq xs) → k ≡ lengthOf xs → WalkedText (writeObj (seq xs)) opened opened at cap r out out₂
       go m nil u rep e = absurd (z e)
       go m (x :: xs) u rep e = walk-then (open-walk opened h l refl p) refl n (rw back at (w .means m x xs u rep))
 
@@ -176,7 +175,7 @@ pub record Rest (C : List ℕ) (n : ℕ) (xs : Objs) (out₀ : List ℕ) (from c
   pub ys : Objs
   pub rep : Rep C n s (seq (y :: ys))
   pub size : suc (lengthOf ys) ≡ left
-  pub so-far : (r : Written) (out′ : List ℕ) → Walked (writeObjs (y :: ys)) opened (opened - 1) at cap r out out′ → Walked (writeObjs xs) opened (opened - 1) from cap r out₀ out′
+  pub so-far : (r : Written) (out′ : List ℕ) → WalkedText (writeObjs (y :: ys)) opened (opened - 1) at cap r out out′ → WalkedText (writeObjs xs) opened (opened - 1) from cap r out₀ out′
 
 pub record PlacesLeft (C : List ℕ) (v : Val) (out₀ : List ℕ) (from cap opened left : ℕ) (s : Val) (at : ℕ) (out : List ℕ) : Type 0 where
   pub low : from ≤ at
@@ -196,12 +195,12 @@ module _ {C : List ℕ} {v : Val} {out₀ : List ℕ} {from cap opened : ℕ} wh
   module _ {left : ℕ} {s : Val} {at : ℕ} {out : List ℕ} (g : PlacesLeft C v out₀ from cap opened left s at out) where
     -- with an object behind the first of those left
     more-left : (n : ℕ) (xs : Objs) {r : Written} {out₁ : List ℕ} → n < 4294967296 → 1 < left → PlaceWalked C s at cap opened 44 r out out₁ → (R : Type 0) → Rest C n xs out₀ from cap opened left s at out
-        → ((y z : Obj) (zs : Objs) → Rep C n s (seq (y :: z :: zs)) → suc (suc (lengthOf zs)) ≡ left → Walked (writeObj y ++ (44 ∷ [])) opened opened at cap r out out₁
-        → ((r′ : Written) (out′ : List ℕ) → Walked ((writeObj y ++ (44 ∷ [])) ++ writeObjs (z :: zs)) opened (opened - 1) at cap r′ out out′ → Walked (writeObjs xs) opened (opened - 1) from cap r′ out₀ out′) → R) → R
+        → ((y z : Obj) (zs : Objs) → Rep C n s (seq (y :: z :: zs)) → suc (suc (lengthOf zs)) ≡ left → WalkedText (writeObj y ++ (44 ∷ [])) opened opened at cap r out out₁
+        → ((r′ : Written) (out′ : List ℕ) → WalkedText ((writeObj y ++ (44 ∷ [])) ++ writeObjs (z :: zs)) opened (opened - 1) at cap r′ out out′ → WalkedText (writeObjs xs) opened (opened - 1) from cap r′ out₀ out′) → R) → R
     unfolding writeObj
     more-left n xs {r} {out₁} u h w R q f = go (q .y) (q .ys) (q .rep) (q .size) (q .so-far)
       where
-        go : (y : Obj) (ys : Objs) → Rep C n s (seq (y :: ys)) → suc (lengthOf ys) ≡ left → ((r : Written) (out′ : List ℕ) → Walked (writeObjs (y :: ys)) opened (opened - 1) at cap r out out′ → Walked (writeObjs xs) opened (opened - 1) from cap r out₀ out′) → R
+        go : (y : Obj) (ys : Objs) → Rep C n s (seq (y :: ys)) → suc (lengthOf ys) ≡ left → ((r : Written) (out′ : List ℕ) → WalkedText (writeObjs (y :: ys)) opened (opened - 1) at cap r out out′ → WalkedText (writeObjs xs) opened (opened - 1) from cap r out₀ out′) → R
         go y nil rep z k = absurd (omega arith)
         go y (y₂ :: ys) rep z k = f y y₂ ys rep z (w .means n y (y₂ :: ys) u (λ e. omega arith) rep) (λ r′ out′ x. k r′ out′ (rw append-assoc at x))
 
@@ -218,19 +217,19 @@ module _ {C : List ℕ} {v : Val} {out₀ : List ℕ} {from cap opened : ℕ} wh
         }
 
     pub places-short : {r : Written} {out₁ : List ℕ} → 1 < left → PlaceWalked C s at cap opened 44 r out out₁ → r ≡ W.Short → PlacesWalked C v from cap opened W.Short out₀ out₁
-    places-short {r} {out₁} h w f = record { within = within-short refl; means = λ n x xs u rep. more-left n (x :: xs) u h w (Walked (writeObjs (x :: xs)) opened (opened - 1) from cap W.Short out₀ out₁) (g .means n x xs u rep) (λ y z zs rep₁ size walked k. k W.Short out₁ (walk-short (writeObjs (z :: zs)) (opened - 1) walked f refl)) }
+    places-short {r} {out₁} h w f = record { within = within-short refl; means = λ n x xs u rep. more-left n (x :: xs) u h w (WalkedText (writeObjs (x :: xs)) opened (opened - 1) from cap W.Short out₀ out₁) (g .means n x xs u rep) (λ y z zs rep₁ size walked k. k W.Short out₁ (walk-short (writeObjs (z :: zs)) (opened - 1) walked f refl)) }
 
     pub places-deep : {r : Written} {out₁ : List ℕ} → 1 < left → PlaceWalked C s at cap opened 44 r out out₁ → r ≡ W.Deep → PlacesWalked C v from cap opened W.Deep out₀ out₁
-    places-deep {r} {out₁} h w f = record { within = within-deep refl; means = λ n x xs u rep. more-left n (x :: xs) u h w (Walked (writeObjs (x :: xs)) opened (opened - 1) from cap W.Deep out₀ out₁) (g .means n x xs u rep) (λ y z zs rep₁ size walked k. k W.Deep out₁ (walk-deep (writeObjs (z :: zs)) (opened - 1) walked f refl)) }
+    places-deep {r} {out₁} h w f = record { within = within-deep refl; means = λ n x xs u rep. more-left n (x :: xs) u h w (WalkedText (writeObjs (x :: xs)) opened (opened - 1) from cap W.Deep out₀ out₁) (g .means n x xs u rep) (λ y z zs rep₁ size walked k. k W.Deep out₁ (walk-deep (writeObjs (z :: zs)) (opened - 1) walked f refl)) }
 
     pub places-end : {r : Written} {out₁ : List ℕ} → left ≤ 1 → PlaceWalked C s at cap opened 62 r out out₁ → PlacesWalked C v from cap opened r out₀ out₁
     unfolding writeObj
     places-end {r} {out₁} h w = record { within = within-later (g .low) (w .within); means = λ n x xs u rep. go n (x :: xs) u (g .means n x xs u rep) }
       where
-        go : (n : ℕ) (xs : Objs) → n < 4294967296 → Rest C n xs out₀ from cap opened left s at out → Walked (writeObjs xs) opened (opened - 1) from cap r out₀ out₁
+        go : (n : ℕ) (xs : Objs) → n < 4294967296 → Rest C n xs out₀ from cap opened left s at out → WalkedText (writeObjs xs) opened (opened - 1) from cap r out₀ out₁
         go n xs u q = last (q .y) (q .ys) (q .rep) (q .size) (q .so-far)
           where
-            last : (y : Obj) (ys : Objs) → Rep C n s (seq (y :: ys)) → suc (lengthOf ys) ≡ left → ((r : Written) (out′ : List ℕ) → Walked (writeObjs (y :: ys)) opened (opened - 1) at cap r out out′ → Walked (writeObjs xs) opened (opened - 1) from cap r out₀ out′) → Walked (writeObjs xs) opened (opened - 1) from cap r out₀ out₁
+            last : (y : Obj) (ys : Objs) → Rep C n s (seq (y :: ys)) → suc (lengthOf ys) ≡ left → ((r : Written) (out′ : List ℕ) → WalkedText (writeObjs (y :: ys)) opened (opened - 1) at cap r out out′ → WalkedText (writeObjs xs) opened (opened - 1) from cap r out₀ out′) → WalkedText (writeObjs xs) opened (opened - 1) from cap r out₀ out₁
             last y nil rep z k = k r out₁ (w .means n y nil u (λ e. omega arith) rep)
             last y (y₂ :: ys) rep z k = absurd (omega arith)
 
@@ -251,7 +250,7 @@ module _ {C : List ℕ} {v : Val} {cap : ℕ} {r₁ : Written} {none none₁ out
   pub write-short : cap ≡ outputRoom (length out) → ObjectWalked C v 0 cap 0 r₁ none none₁ → r₁ ≡ W.Short → ObjectWritten C v W.Short out (none₁ ++ out)
   write-short c w e = record { within = within-short refl; means = λ n x u rep. rw (← c, no-bytes none₁ empty) (go x (w .means n x u rep)) }
     where
-      go : (x : Obj) → Walked (writeObj x) 0 0 0 cap r₁ none none₁ → Outcome (writeObj x) W.Short out out (scan (writeObj x) 0 cap)
+      go : (x : Obj) → WalkedText (writeObj x) 0 0 0 cap r₁ none none₁ → ObjectEnd (writeObj x) W.Short out out (scan (writeObj x) 0 cap)
       go x (fits f l s p) = let z : _≡_ {A = ℕ} 0 1 = cc in absurd (omega arith)
       go x (too-long f s) = rw (measured cap x s) (no-room refl refl)
       go x (too-deep f s) = let z : _≡_ {A = ℕ} 0 1 = cc in absurd (omega arith)
@@ -259,7 +258,7 @@ module _ {C : List ℕ} {v : Val} {cap : ℕ} {r₁ : Written} {none none₁ out
   pub write-deep : cap ≡ outputRoom (length out) → ObjectWalked C v 0 cap 0 r₁ none none₁ → r₁ ≡ W.Deep → ObjectWritten C v W.Deep out (none₁ ++ out)
   write-deep c w e = record { within = within-deep refl; means = λ n x u rep. rw (← c, no-bytes none₁ empty) (go x (w .means n x u rep)) }
     where
-      go : (x : Obj) → Walked (writeObj x) 0 0 0 cap r₁ none none₁ → Outcome (writeObj x) W.Deep out out (scan (writeObj x) 0 cap)
+      go : (x : Obj) → WalkedText (writeObj x) 0 0 0 cap r₁ none none₁ → ObjectEnd (writeObj x) W.Deep out out (scan (writeObj x) 0 cap)
       go x (fits f l s p) = let z : _≡_ {A = ℕ} 0 1 = cc in absurd (omega arith)
       go x (too-long f s) = let z : _≡_ {A = ℕ} 0 1 = cc in absurd (omega arith)
       go x (too-deep f s) = rw (measured cap x s) (no-mark refl refl)
@@ -273,7 +272,7 @@ module _ {C : List ℕ} {v : Val} {cap : ℕ} {r₁ : Written} {none none₁ out
       text-put : (t : List ℕ) → put out 0 t ≡ t ++ drop (length t) out
       text-put t = rw zero-add
 
-      go : (x : Obj) → Walked (writeObj x) 0 0 0 cap r₁ none none₁ → Walked (writeObj x) 0 0 0 cap r₂ out out₂ → Outcome (writeObj x) (W.Done e) out out₂ (scan (writeObj x) 0 cap)
+      go : (x : Obj) → WalkedText (writeObj x) 0 0 0 cap r₁ none none₁ → WalkedText (writeObj x) 0 0 0 cap r₂ out out₂ → ObjectEnd (writeObj x) (W.Done e) out out₂ (scan (writeObj x) 0 cap)
       go x (too-long g s) b = let z : _≡_ {A = ℕ} 0 1 = cc in absurd (omega arith)
       go x (too-deep g s) b = let z : _≡_ {A = ℕ} 0 1 = cc in absurd (omega arith)
       go x (fits g l s p) (too-long g₂ s₂) = let z : _≡_ {A = ℕ} 0 1 = apart (sym s ∙ s₂) in absurd (omega arith)
@@ -286,4 +285,4 @@ module _ {C : List ℕ} {v : Val} {cap : ℕ} {r₁ : Written} {none none₁ out
           apart h = cc
       go x (fits g l s p) (fits g₂ l₂ s₂ p₂) =
           let i : e ≡ 0 + length (writeObj x) = cc in
-          rw (measured cap x s) (done (ap W.Done (i ∙ zero-add (length (writeObj x)))) (p₂ (omega arith) ∙ text-put (writeObj x)))
+          rw (measured cap x s) (object-written (ap W.Done (i ∙ zero-add (length (writeObj x)))) (p₂ (omega arith) ∙ text-put (writeObj x)))

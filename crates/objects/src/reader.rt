@@ -1,7 +1,6 @@
 // Objects from text into cells. A sequence's places are a loop, so calls nest only as deep as marks do. Cells are counted
 // on past the end of the table, and written only where it has room.
-ghost use mathlib.Core.Path.{_≡_};
-ghost use Prim.Native.Nat.{ℕ, _+_, _-_, _≤_};
+ghost use Prim.Native.Nat.{_+_, _-_, _≤_};
 ghost use lib.ListN.{length};
 ghost use Rattle.objects.specs.Readings.{AtomReading, ObjectReading, PlaceReading, PlacesReading, WholeReading};
 use super::ObjectRead;

@@ -1,11 +1,9 @@
 // Objects as text. A walk goes over an object's text from the left: it stops at the first byte without room and at the
 // first mark too many, and it writes only where the output has room. So the same walk measures, and then writes.
 ghost use mathlib.Core.Path.{_≡_};
-ghost use mathlib.Core.List.{List, [], _∷_};
-ghost use Prim.Native.Nat.{ℕ, _+_, _-_, _≤_, _<_};
+ghost use Prim.Native.Nat.{_+_, _-_, _≤_, _<_};
 ghost use lib.ListN.{length};
 ghost use lib.Seq.{slice};
-ghost use Rattle.language.specs.Writing.{decimal};
 ghost use Rattle.objects.specs.Writings.{PutByte, PutText, TextWalked, MarkWalked, DecimalWalked, SymbolWalked, AtomWalked, ObjectWalked, PlaceWalked, PlacesWalked, ObjectWritten, outputRoom};
 use super::Written;
 use super::integers;

@@ -1,6 +1,6 @@
 -- Laws of `packed` and `unpacked`: the turns of both loops, that twelve letters fit 64 bits, and that each undoes the other.
 use mathlib.Core.Path.{_≡_, refl, ap, sym, _∙_}
-use mathlib.Core.Bool.{Bool, true, false, cond, _&&_, _||_, and-eq-true-iff}
+use mathlib.Core.Bool.{Bool, true, false, _&&_, _||_, and-eq-true-iff}
 use mathlib.Core.Logic.{_⊎_, inl, inr, ⊎-elim}
 use mathlib.Core.List.{List, [], _∷_, _++_, append-assoc, append-nil}
 use Prim.Native.Nat.{ℕ, zero, suc, _+_, _-_, _*_, _/_, _%_, _^_, _≤_, _<_}
@@ -8,8 +8,8 @@ use native.Mathlib.Nat.{pow-suc, pow-le-pow-right}
 use native.Mathlib.Numerals.{add-one}
 use native.Mathlib.Omega.{arith}
 use borrow.Author.Tests.{le-leb, lt-leb, ne-eqb, leb-true}
-use lib.Dec.{leb, eqb}
-use lib.ListN.{length, getD, take, drop, set, take-append-drop, length-set}
+use lib.Dec.{leb}
+use lib.ListN.{length, getD, take, drop, set, take-append-drop}
 use lib.Seq.{slice, slice-empty, length-slice, length-take-le, take-suc-set, drop-set-lt, drop-drop}
 use Rattle.language.specs.Tokens.{isDigit, isLower, isUpper}
 use Rattle.language.specs.Judging.{all, isSymbolByte}
@@ -17,7 +17,7 @@ use Rattle.language.specs.Accepted.{IsSymbol, IsName}
 use Rattle.packing.specs.Packing.{letterOf, packed}
 use Rattle.packing.specs.declared.Case.{Case}
 use Rattle.packing.specs.declared.Case.the-variants.{Upper, Lower}
-use Rattle.packing.specs.Packing.{before, byteOf, inCase, unpackedFrom, unpacked, Unpacked}
+use Rattle.packing.specs.Packing.{letterBase, byteOf, inCase, unpackedFrom, unpacked, Unpacked}
 use Rattle.packing.proofs.Slices.{slice-first}
 
 -- packing
@@ -48,7 +48,7 @@ module _ (s : List ℕ) (to : ℕ) (fits : to ≤ length s) where
   pub packed-fits : (from i j : ℕ) → i ≡ j + 1 → i ≤ to → from ≤ j → to ≤ from + 12 → packed (slice i to s) * 37 + 37 ≤ 37 ^ 12
   packed-fits from i j e h f n = packed-room (slice i to s) (rw (length-slice i to s fits) (omega arith))
 
--- the bytes of a case: letters behind `before`, or digits
+-- the bytes of a case: letters behind `letterBase`, or digits
 either : (x y : Bool) → x || y ≡ true → (x ≡ true) ⊎ (y ≡ true)
 either true y h = inl refl
 either false y h = inr h
@@ -56,7 +56,7 @@ either false y h = inr h
 bounds : (a z b : ℕ) → leb a b && leb b z ≡ true → (a ≤ b) × (b ≤ z)
 bounds a z b h = let e = and-eq-true-iff (leb a b) (leb b z) .0 h in (leb-true a b (e .0), leb-true b z (e .1))
 
-byte-cases : (case : Case) (b : ℕ) → inCase case b ≡ true → ((before case + 1 ≤ b) × (b ≤ before case + 26)) ⊎ ((48 ≤ b) × (b ≤ 57))
+byte-cases : (case : Case) (b : ℕ) → inCase case b ≡ true → ((letterBase case + 1 ≤ b) × (b ≤ letterBase case + 26)) ⊎ ((48 ≤ b) × (b ≤ 57))
 byte-cases Upper b h = ⊎-elim (λ e. inl (bounds 65 90 b e)) (λ e. inr (bounds 48 57 b e)) (either (leb 65 b && leb b 90) (leb 48 b && leb b 57) h)
 byte-cases Lower b h = ⊎-elim (λ e. inl (bounds 97 122 b e)) (λ e. inr (bounds 48 57 b e)) (either (leb 97 b && leb b 122) (leb 48 b && leb b 57) h)
 
@@ -64,7 +64,7 @@ letter-digit : (b : ℕ) → 48 ≤ b → b ≤ 57 → letterOf b ≡ b - 21
 unfolding letterOf
 letter-digit b h k = rw (le-leb b 57 k) (omega arith)
 
-letter-letter : (case : Case) (b : ℕ) → before case + 1 ≤ b → b ≤ before case + 26 → letterOf b ≡ b - before case
+letter-letter : (case : Case) (b : ℕ) → letterBase case + 1 ≤ b → b ≤ letterBase case + 26 → letterOf b ≡ b - letterBase case
 unfolding letterOf
 letter-letter Upper b h k = rw (lt-leb b 57 (omega arith), le-leb b 90 k) (omega arith)
 letter-letter Lower b h k = rw (lt-leb b 57 (omega arith), lt-leb b 90 (omega arith)) (omega arith)
@@ -77,8 +77,8 @@ record Letter (case : Case) (b : ℕ) : Type 0 where
 letter-back : (case : Case) (b : ℕ) → inCase case b ≡ true → Letter case b
 letter-back case b h = ⊎-elim (λ k. letters (k .0) (k .1)) (λ k. digits (k .0) (k .1)) (byte-cases case b h)
   where
-    letters : before case + 1 ≤ b → b ≤ before case + 26 → Letter case b
-    letters h k = let e = letter-letter case b h k in record { back = rw (e, le-leb (b - before case) 26 (omega arith)) (omega arith); some = rw e (omega arith); few = rw e (omega arith) }
+    letters : letterBase case + 1 ≤ b → b ≤ letterBase case + 26 → Letter case b
+    letters h k = let e = letter-letter case b h k in record { back = rw (e, le-leb (b - letterBase case) 26 (omega arith)) (omega arith); some = rw e (omega arith); few = rw e (omega arith) }
 
     digits : 48 ≤ b → b ≤ 57 → Letter case b
     digits h k = let e = letter-digit b h k in record { back = rw (e, lt-leb (b - 21) 26 (omega arith)) (omega arith); some = rw e (omega arith); few = rw e (omega arith) }
@@ -110,10 +110,6 @@ module _ (case : Case) where
   -- a word of the case's bytes comes back
   pub unpacked-packed : (w : List ℕ) → all (inCase case) w ≡ true → length w ≤ 12 → unpacked case (packed w) ≡ w
   unpacked-packed w h n = back-from 12 w h n
-
-  -- so two words with the same number are the same
-  pub packed-injective : (w v : List ℕ) → all (inCase case) w ≡ true → length w ≤ 12 → all (inCase case) v ≡ true → length v ≤ 12 → packed w ≡ packed v → w ≡ v
-  packed-injective w v hw nw hv nv e = sym (unpacked-packed w hw nw) ∙ ap (unpacked case) e ∙ unpacked-packed v hv nv
 
 or-left : (x y : Bool) → x ≡ true → x || y ≡ true
 or-left x y h = rw h

@@ -20,12 +20,12 @@ packed [] = 0
 packed (b ∷ w) = packed w * 37 + letterOf b
 
 -- what stands before a letter of each case
-abbrev pub before : Case → ℕ
-before Upper = 64
-before Lower = 96
+abbrev pub letterBase : Case → ℕ
+letterBase Upper = 64
+letterBase Lower = 96
 
 abbrev pub byteOf : Case → ℕ → ℕ
-byteOf case d = cond (leb d 26) (d + before case) (d + 21)
+byteOf case d = cond (leb d 26) (d + letterBase case) (d + 21)
 
 -- the bytes of the words that are written in a case
 abbrev pub inCase : Case → ℕ → Bool

@@ -1,10 +1,9 @@
 // Words of up to 12 letters and digits as numbers of 64 bits, and back.
 ghost use mathlib.Core.Path.{_≡_};
-ghost use mathlib.Core.List.{_++_};
 ghost use Prim.Native.Nat.{_+_, _≤_, _<_};
-ghost use lib.ListN.{length, drop};
+ghost use lib.ListN.{length};
 ghost use lib.Seq.{slice};
-ghost use Rattle.packing.specs.Packing.{letterOf, packed, byteOf, unpacked, Unpacked};
+ghost use Rattle.packing.specs.Packing.{letterOf, packed, byteOf, Unpacked};
 
 // How a packed word is written.
 pub enum Case {

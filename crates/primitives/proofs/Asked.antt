@@ -8,7 +8,7 @@ use native.Mathlib.Nat.{mul-le-mul}
 use lib.Dec.{ltb}
 use lib.ListN.{getD}
 use borrow.Author.Tests.{ltb-true, ltb-false}
-use Rattle.language.specs.Words.{Op, CellRule, no-cell, one-cell, n-less-1, n-cells, n-and-1, three-n, m-and-m-times-n, Entry, entry, cellsBy}
+use Rattle.language.specs.Words.{Op, CellRule, no-cell, one-cell, n-less-1, n-cells, n-and-1, three-n, m-and-m-times-n, entry, cellsBy}
 use Rattle.language.specs.Charging.{cellsCharge, cellsTaken}
 use Rattle.language.specs.declared.Meter.{Meter}
 use Rattle.language.specs.declared.Charge.{Charge}

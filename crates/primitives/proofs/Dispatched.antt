@@ -11,7 +11,7 @@ use Rattle.language.specs.Objects.{Obj, seq, Objs, nil, _::_, lengthOf, _+++_, 
 use Rattle.language.specs.Words.{Op, ops}
 use Rattle.language.specs.Forms.{op}
 use Rattle.language.specs.Numbers.{one}
-use Rattle.language.specs.Meanings.{WordAnswer, falls, meaning, made, plain, number, divided, compared, look, onSeq, onInt, onTruth, onPair, pair, withLeft, withRight}
+use Rattle.language.specs.Meanings.{WordAnswer, falls, meaning, made, plain, number, divided, compared, look, onSeq, onInt, onTruth, onPair, withLeft, withRight}
 use Rattle.language.specs.Evaluation.{charged}
 use Rattle.language.specs.declared.Meter.{Meter}
 use Rattle.language.specs.declared.Val.{Val}

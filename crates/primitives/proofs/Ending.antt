@@ -9,7 +9,7 @@ use Rattle.language.specs.Objects.{Obj}
 use Rattle.language.specs.Forms.{Word}
 use Rattle.language.specs.Numbers.{one}
 use Rattle.language.specs.Meanings.{WordAnswer, falls, gives, meaning, pair}
-use Rattle.language.specs.Evaluation.{value, bottom, spent, noCell, askSteps, askCells, charged}
+use Rattle.language.specs.Evaluation.{value, spent, noCell, askSteps, askCells, charged}
 use Rattle.language.specs.Charging.{takeCells, cellsTaken}
 use Rattle.language.specs.declared.Meter.{Meter}
 use Rattle.language.specs.declared.Val.{Val}

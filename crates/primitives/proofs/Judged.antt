@@ -17,7 +17,7 @@ use Rattle.language.specs.declared.Meter.{Meter}
 use Rattle.language.specs.declared.Val.{Val}
 use Rattle.cells.specs.Cells.{Rep, Room, free}
 use Rattle.cells.proofs.Reps.{same-refl}
-use Rattle.equality.specs.Looking.{stepsTaken, ended, Looks}
+use Rattle.equality.specs.Looking.{stepsTaken, comparedEnd, Looks}
 use Rattle.equality.specs.declared.Compared.{Compared}
 use Rattle.equality.specs.declared.Compared.the-variants.{Equal, Differ, Out as Ran}
 use Rattle.language.proofs.Charging.{meter-same}
@@ -161,8 +161,8 @@ charged-looked l m false e = rw (e, askSteps)
 gives-stepped : {C : List ℕ} {m : Meter} {u : Val} (p : ℕ) (y : Obj) → Room C m → Rep C (free C m) u y → Gives C m C (value y (stepsTaken p m)) (Done u (stepsTaken p m))
 gives-stepped {C} {m} p y o r = gives-value (record { rep = r; same = same-refl C (free C m); room = record { fits = o .fits; small = o .small }; fewer = omega arith; long = refl })
 
-eq-gives-same : {C : List ℕ} {m k : Meter} {u : Val} (l : Looked) → Room C m → u ≡ truthVal true → Equal k ≡ ended l m → Gives C m C (charged (compared l) m) (Done u k)
-unfolding ended
+eq-gives-same : {C : List ℕ} {m k : Meter} {u : Val} (l : Looked) → Room C m → u ≡ truthVal true → Equal k ≡ comparedEnd l m → Gives C m C (charged (compared l) m) (Done u k)
+unfolding comparedEnd
 eq-gives-same {C} {m} {k} {u} l o e f = go (leb (l .pairs) (m .steps)) refl (l .same) refl
   where
     go : (t : Bool) → leb (l .pairs) (m .steps) ≡ t → (s : Bool) → l .same ≡ s → Gives C m C (charged (compared l) m) (Done u k)
@@ -173,8 +173,8 @@ eq-gives-same {C} {m} {k} {u} l o e f = go (leb (l .pairs) (m .steps)) refl (l .
     go true h false i = let z : Equal k ≡ Differ (stepsTaken (l .pairs) m) = rw (h, i) at f in let q : _≡_ {A = ℕ} 0 1 = cc in absurd (omega arith)
     go false h s i = let z : Equal k ≡ Ran (record { steps = 0; names = m .names; cells = m .cells }) = rw h at f in let q : _≡_ {A = ℕ} 0 1 = cc in absurd (omega arith)
 
-eq-gives-other : {C : List ℕ} {m k : Meter} {u : Val} (l : Looked) → Room C m → u ≡ truthVal false → Differ k ≡ ended l m → Gives C m C (charged (compared l) m) (Done u k)
-unfolding ended
+eq-gives-other : {C : List ℕ} {m k : Meter} {u : Val} (l : Looked) → Room C m → u ≡ truthVal false → Differ k ≡ comparedEnd l m → Gives C m C (charged (compared l) m) (Done u k)
+unfolding comparedEnd
 eq-gives-other {C} {m} {k} {u} l o e f = go (leb (l .pairs) (m .steps)) refl (l .same) refl
   where
     go : (t : Bool) → leb (l .pairs) (m .steps) ≡ t → (s : Bool) → l .same ≡ s → Gives C m C (charged (compared l) m) (Done u k)
@@ -185,8 +185,8 @@ eq-gives-other {C} {m} {k} {u} l o e f = go (leb (l .pairs) (m .steps)) refl (l 
         rw (charged-looked l m true h, y, i) (gives-stepped (l .pairs) (truth false) o (truth-rep C (free C m) false e))
     go false h s i = let z : Differ k ≡ Ran (record { steps = 0; names = m .names; cells = m .cells }) = rw h at f in let q : _≡_ {A = ℕ} 0 1 = cc in absurd (omega arith)
 
-eq-gives-out : {C : List ℕ} {m k : Meter} (l : Looked) → Ran k ≡ ended l m → Gives C m C (charged (compared l) m) (Stop 22 k)
-unfolding ended
+eq-gives-out : {C : List ℕ} {m k : Meter} (l : Looked) → Ran k ≡ comparedEnd l m → Gives C m C (charged (compared l) m) (Stop 22 k)
+unfolding comparedEnd
 eq-gives-out {C} {m} {k} l f = go (leb (l .pairs) (m .steps)) refl (l .same) refl
   where
     go : (t : Bool) → leb (l .pairs) (m .steps) ≡ t → (s : Bool) → l .same ≡ s → Gives C m C (charged (compared l) m) (Stop 22 k)

@@ -6,7 +6,7 @@ use mathlib.Core.List.{List}
 use native.Mathlib.Omega.{arith}
 use lib.ListN.{length}
 use Rattle.language.specs.Objects.{Obj, int, symbol, seq, Objs, nil, _::_, lengthOf, _+++_}
-use Rattle.language.specs.Words.{Op, Entry, entry, cellsBy}
+use Rattle.language.specs.Words.{Op, entry, cellsBy}
 use Rattle.language.specs.Forms.{op}
 use Rattle.language.specs.Numbers.{one}
 use Rattle.language.specs.Meanings.{WordAnswer, gives, meaning, made, onSeq, pair, turned, toLeft, toRight, withLeft, withRight}
@@ -18,7 +18,7 @@ use Rattle.cells.specs.Cells.{Rep, Room, free, sequenceVal}
 use Rattle.cells.specs.Parts.{Sized}
 use Rattle.cells.proofs.Reps.{rep-ext, same-trans}
 use Rattle.lexer.specs.Vocabulary.{opCode}
-use Rattle.sequences.specs.Making.{Space, Stands, Before, Prepended, Built, allButLast, sides, Shared}
+use Rattle.sequences.specs.Making.{Space, NewSequence, PutBefore, Prepended, Rearranged, allButLast, sides, Shared}
 use Rattle.sequences.proofs.Parts.{take-all, length-append-one, length-but-last}
 use Rattle.sequences.proofs.Building.{nil-rep, stands-as, length-turned}
 use Rattle.primitives.specs.Ends.{Gives, Leaf}
@@ -62,34 +62,34 @@ pub space-at : {C : List ℕ} {m k : Meter} {need p : ℕ} → Room C m → Got 
 space-at {C} {m} r g = record { far = omega (arith, g .first, g .enough, free-low C m r, r .fits, r .small); long = omega (arith, g .first, g .enough, r .fits) }
 
 -- what stands in the cells that were asked for is what the word gives
-pub end-stands : {C C′ : List ℕ} {m k : Meter} {r : Val} {a : WordAnswer} {p : ℕ} (need : ℕ) (ys : Objs) → Room C m → a ≡ gives 0 need (seq ys) → Got C need m p k → length C′ ≡ length C → Stands C p need ys r C′ → Gives C m C′ (charged a m) (Done r k)
+pub end-stands : {C C′ : List ℕ} {m k : Meter} {r : Val} {a : WordAnswer} {p : ℕ} (need : ℕ) (ys : Objs) → Room C m → a ≡ gives 0 need (seq ys) → Got C need m p k → length C′ ≡ length C → NewSequence C p need ys r C′ → Gives C m C′ (charged a m) (Done r k)
 end-stands {C} {C′} {m} {k} {r} {a} {p} need ys o e g l s =
-    let t : Stands C (free C m) need ys r C′ = rw (g .first) at s in
+    let t : NewSequence C (free C m) need ys r C′ = rw (g .first) at s in
     end-cells need (seq ys) o e (g .enough) (g .taken) l (t .rep) (t .same)
 
 -- ---- places in another order
-pub arranged-tlr : {C C′ : List ℕ} {v r : Val} {code n p : ℕ} → code ≡ 15 → Built allButLast C v n p r C′ → Arranged C v code n p r C′
+pub arranged-tlr : {C C′ : List ℕ} {v r : Val} {code n p : ℕ} → code ≡ 15 → Rearranged allButLast C v n p r C′ → Arranged C v code n p r C′
 arranged-tlr {C} {C′} {v} {r} {code} {n} {p} e b = record { means = λ o f d. go o f (subst (λ (k : ℕ). Orders k o f) e d) }
   where
-    go : (o : Op) (f : Objs → Objs) → Orders 15 o f → Built f C v n p r C′
+    go : (o : Op) (f : Objs → Objs) → Orders 15 o f → Rearranged f C v n p r C′
     go o f order-tlr = b
 
-pub arranged-reverse : {C C′ : List ℕ} {v r : Val} {code n p : ℕ} → code ≡ 16 → Built turned C v n p r C′ → Arranged C v code n p r C′
+pub arranged-reverse : {C C′ : List ℕ} {v r : Val} {code n p : ℕ} → code ≡ 16 → Rearranged turned C v n p r C′ → Arranged C v code n p r C′
 arranged-reverse {C} {C′} {v} {r} {code} {n} {p} e b = record { means = λ o f d. go o f (subst (λ (k : ℕ). Orders k o f) e d) }
   where
-    go : (o : Op) (f : Objs → Objs) → Orders 16 o f → Built f C v n p r C′
+    go : (o : Op) (f : Objs → Objs) → Orders 16 o f → Rearranged f C v n p r C′
     go o f order-reverse = b
 
-pub arranged-rotl : {C C′ : List ℕ} {v r : Val} {code n p : ℕ} → code ≡ 17 → Built toLeft C v n p r C′ → Arranged C v code n p r C′
+pub arranged-rotl : {C C′ : List ℕ} {v r : Val} {code n p : ℕ} → code ≡ 17 → Rearranged toLeft C v n p r C′ → Arranged C v code n p r C′
 arranged-rotl {C} {C′} {v} {r} {code} {n} {p} e b = record { means = λ o f d. go o f (subst (λ (k : ℕ). Orders k o f) e d) }
   where
-    go : (o : Op) (f : Objs → Objs) → Orders 17 o f → Built f C v n p r C′
+    go : (o : Op) (f : Objs → Objs) → Orders 17 o f → Rearranged f C v n p r C′
     go o f order-rotl = b
 
-pub arranged-rotr : {C C′ : List ℕ} {v r : Val} {code n p : ℕ} → (code ≡ 15 → ⊥) → (code ≡ 16 → ⊥) → (code ≡ 17 → ⊥) → Built toRight C v n p r C′ → Arranged C v code n p r C′
+pub arranged-rotr : {C C′ : List ℕ} {v r : Val} {code n p : ℕ} → (code ≡ 15 → ⊥) → (code ≡ 16 → ⊥) → (code ≡ 17 → ⊥) → Rearranged toRight C v n p r C′ → Arranged C v code n p r C′
 arranged-rotr {C} {C′} {v} {r} {code} {n} {p} e₁ e₂ e₃ b = record { means = λ o f d. go code o f d e₁ e₂ e₃ }
   where
-    go : (code : ℕ) (o : Op) (f : Objs → Objs) → Orders code o f → (code ≡ 15 → ⊥) → (code ≡ 16 → ⊥) → (code ≡ 17 → ⊥) → Built f C v n p r C′
+    go : (code : ℕ) (o : Op) (f : Objs → Objs) → Orders code o f → (code ≡ 15 → ⊥) → (code ≡ 16 → ⊥) → (code ≡ 17 → ⊥) → Rearranged f C v n p r C′
     go code o f order-tlr a b c = absurd (a refl)
     go code o f order-reverse a b c = absurd (b refl)
     go code o f order-rotl a b c = absurd (c refl)
@@ -202,7 +202,7 @@ first-seq {C} {m = m} o h s g x y room ra rb =
 pub apndl-short : {C : List ℕ} {a b : Val} {m k : Meter} {n : ℕ} {q : Reserved} → b .tag ≡ 3 → Sized b n → Reserving C 14 n 0 m q → q ≡ Short k → LeafTwo C a b m (op Op.apndl) (Stop 24 k) C
 apndl-short h s g e = record { sinks = tt; means = second-seq Op.apndl h s (λ x ys i room ra rb. let b = short Op.apndl g e code-apndl room in end-short 1 (seq (x :: ys)) refl (b .0) (b .1)) }
 
-pub apndl-is : {C C′ : List ℕ} {a b r : Val} {m k : Meter} {n p : ℕ} {q : Reserved} → b .tag ≡ 3 → Sized b n → Reserving C 14 n 0 m q → q ≡ At p k → Before C p a b r C′ → length C′ ≡ length C → LeafTwo C a b m (op Op.apndl) (Done r k) C′
+pub apndl-is : {C C′ : List ℕ} {a b r : Val} {m k : Meter} {n p : ℕ} {q : Reserved} → b .tag ≡ 3 → Sized b n → Reserving C 14 n 0 m q → q ≡ At p k → PutBefore C p a b r C′ → length C′ ≡ length C → LeafTwo C a b m (op Op.apndl) (Done r k) C′
 apndl-is h s g e t l = record {
   sinks = kept-sinks (kept g e);
   means = second-seq Op.apndl h s (λ x ys i room ra rb.
@@ -219,14 +219,14 @@ apndr-short h s g e = record {
       end-short (lengthOf xs + 1) (seq (xs +++ (y :: nil))) refl (b .0) (b .1));
 }
 
-apndr-stands : {C C₁ C₂ : List ℕ} {a b o last r : Val} {n p : ℕ} (xs : Objs) (y : Obj) → n ≡ lengthOf xs → o ≡ sequenceVal 0 0 → Before C p b o last C₁ → length C₁ ≡ length C → Prepended C₁ a n (p + 1) last r C₂ → Space C p (lengthOf xs + 1) → Rep C p a (seq xs) → Rep C p b y → Stands C p (lengthOf xs + 1) (xs +++ (y :: nil)) r C₂
+apndr-stands : {C C₁ C₂ : List ℕ} {a b o last r : Val} {n p : ℕ} (xs : Objs) (y : Obj) → n ≡ lengthOf xs → o ≡ sequenceVal 0 0 → PutBefore C p b o last C₁ → length C₁ ≡ length C → Prepended C₁ a n (p + 1) last r C₂ → Space C p (lengthOf xs + 1) → Rep C p a (seq xs) → Rep C p b y → NewSequence C p (lengthOf xs + 1) (xs +++ (y :: nil)) r C₂
 apndr-stands {C} {C₁} {C₂} {a} {b} {o} {last} {r} {n} {p} xs y i f t l g s ra rb =
     let st = t .means y nil (record { far = omega (arith, s .far); long = omega (arith, s .long) }) rb (nil-rep f) in
     let k = g .means xs (y :: nil) (omega arith) (record { far = omega (arith, s .far); long = omega (arith, s .long) }) (rep-ext (st .same) (omega arith) ra) (st .rep) in
     let e : p + 1 + n ≡ p + (lengthOf xs + 1) = omega arith in
     record { rep = subst (λ (z : ℕ). Rep C₂ z r (seq (xs +++ (y :: nil)))) e (subst (λ (t : Objs). Rep C₂ (p + 1 + n) r (seq (t +++ (y :: nil)))) (take-all n xs (omega arith)) (k .rep)); same = same-trans (omega arith) (st .same) (k .same) }
 
-pub apndr-is : {C C₁ C₂ : List ℕ} {a b o last r : Val} {m k : Meter} {n p : ℕ} {q : Reserved} → a .tag ≡ 3 → Sized a n → Reserving C 19 n 0 m q → q ≡ At p k → o ≡ sequenceVal 0 0 → Before C p b o last C₁ → length C₁ ≡ length C → Prepended C₁ a n (p + 1) last r C₂ → length C₂ ≡ length C₁ → LeafTwo C a b m (op Op.apndr) (Done r k) C₂
+pub apndr-is : {C C₁ C₂ : List ℕ} {a b o last r : Val} {m k : Meter} {n p : ℕ} {q : Reserved} → a .tag ≡ 3 → Sized a n → Reserving C 19 n 0 m q → q ≡ At p k → o ≡ sequenceVal 0 0 → PutBefore C p b o last C₁ → length C₁ ≡ length C → Prepended C₁ a n (p + 1) last r C₂ → length C₂ ≡ length C₁ → LeafTwo C a b m (op Op.apndr) (Done r k) C₂
 apndr-is h s g e f t l u l₂ = record {
   sinks = kept-sinks (kept g e);
   means = first-seq Op.apndr h s (λ xs y i room ra rb.

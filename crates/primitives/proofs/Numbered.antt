@@ -9,7 +9,7 @@ use lib.IntN.{ℤ, pos, negsuc, _+ℤ_, _-ℤ_, _*ℤ_}
 use lib.Signed.{ltZ, quotZ}
 use borrow.Author.Tests.{lt-ltb, le-ltb, ltb-true, ltb-false}
 use Rattle.language.specs.Objects.{Obj, int, symbol, seq, truth}
-use Rattle.language.specs.Words.{Op, Entry, entry, cellsBy}
+use Rattle.language.specs.Words.{Op, entry, cellsBy}
 use Rattle.language.specs.Forms.{op}
 use Rattle.language.specs.Numbers.{one}
 use Rattle.language.specs.Meanings.{WordAnswer, falls, gives, meaning, pair, onInts, number, divided}
@@ -17,7 +17,7 @@ use Rattle.language.specs.Evaluation.{charged}
 use Rattle.language.specs.declared.Meter.{Meter}
 use Rattle.language.specs.declared.Val.{Val}
 use Rattle.cells.specs.Cells.{Rep, rep-pos, rep-neg, Room, free}
-use Rattle.arithmetic.specs.Integers.{Holds, holds-pos, holds-neg, Short, Answers, Less}
+use Rattle.arithmetic.specs.Integers.{HoldsInteger, holds-pos, holds-neg, Short, Computes, Less}
 use Rattle.primitives.specs.Shapes.{isIntegerVal, truthVal, InRange}
 use Rattle.primitives.specs.Ends.{Gives, Sinks}
 use Rattle.primitives.specs.Leaves.{PlainTwo}
@@ -33,15 +33,15 @@ range-above h = record { below = λ l. absurd (omega arith); above = λ l. refl 
 pub range-below : {z : Val} {m : Meter} → z .word ≤ 2147483647 → InRange z m (Done z m)
 range-below h = record { below = λ l. refl; above = λ l. absurd (omega arith) }
 
-number-in : (o : Op) (z : ℤ) {v : Val} → Holds v z → v .word < 2147483648 → cellsBy (entry o .rule) 0 0 ≡ 0 → number one o z ≡ gives 0 0 (int z)
+number-in : (o : Op) (z : ℤ) {v : Val} → HoldsInteger v z → v .word < 2147483648 → cellsBy (entry o .rule) 0 0 ≡ 0 → number one o z ≡ gives 0 0 (int z)
 number-in o (pos k) (holds-pos t w) h e = rw (lt-ltb k 2147483648 (omega arith), number, e)
 number-in o (negsuc k) (holds-neg t w) h e = rw (lt-ltb k 2147483648 (omega arith), number, e)
 
-number-out : (o : Op) (z : ℤ) {v : Val} → Holds v z → 2147483648 ≤ v .word → number one o z ≡ falls
+number-out : (o : Op) (z : ℤ) {v : Val} → HoldsInteger v z → 2147483648 ≤ v .word → number one o z ≡ falls
 number-out o (pos k) (holds-pos t w) h = rw (le-ltb k 2147483648 (omega arith), number)
 number-out o (negsuc k) (holds-neg t w) h = rw (le-ltb k 2147483648 (omega arith), number)
 
-integer-rep : (C : List ℕ) (n : ℕ) {v : Val} (z : ℤ) → Holds v z → v .word < 2147483648 → Rep C n v (int z)
+integer-rep : (C : List ℕ) (n : ℕ) {v : Val} (z : ℤ) → HoldsInteger v z → v .word < 2147483648 → Rep C n v (int z)
 integer-rep C n (pos k) (holds-pos t w) h = rep-pos t w (omega arith)
 integer-rep C n (negsuc k) (holds-neg t w) h = rep-neg t w (omega arith)
 
@@ -81,7 +81,7 @@ both-ints : {a b : Val} {o : Op} {k : ℤ → ℤ → WordAnswer} (w : OnInts o 
 both-ints {k = k} w x y p q = on-ints w (pair x y) ∙ rw (p .is, q .is)
 
 -- an answer that is a number
-number-end : {C : List ℕ} {m : Meter} {z : Val} {r : Ended} {a : WordAnswer} (o : Op) (i : ℤ) → cellsBy (entry o .rule) 0 0 ≡ 0 → Room C m → a ≡ number one o i → Holds z i → InRange z m r → Gives C m C (charged a m) r
+number-end : {C : List ℕ} {m : Meter} {z : Val} {r : Ended} {a : WordAnswer} (o : Op) (i : ℤ) → cellsBy (entry o .rule) 0 0 ≡ 0 → Room C m → a ≡ number one o i → HoldsInteger z i → InRange z m r → Gives C m C (charged a m) r
 number-end {C} {m} {z} {r} {a} o i c room e h g = go (ltb (z .word) 2147483648) refl
   where
     go : (t : Bool) → ltb (z .word) 2147483648 ≡ t → Gives C m C (charged a m) r
@@ -99,7 +99,7 @@ range-sinks {m} z {r} g = go (ltb (z .word) 2147483648) refl
     go true f = rw (g .below (ltb-true (z .word) 2147483648 f)) (omega arith, refl)
     go false f = rw (g .above (ltb-false (z .word) 2147483648 f)) tt
 
-pub number-word : {a b z : Val} {m : Meter} {r : Ended} (o : Op) (f : ℤ → ℤ → ℤ) → OnInts o (λ i j. number one o (f i j)) → cellsBy (entry o .rule) 0 0 ≡ 0 → Short a → Short b → Answers f a b z → InRange z m r → PlainTwo a b m (op o) r
+pub number-word : {a b z : Val} {m : Meter} {r : Ended} (o : Op) (f : ℤ → ℤ → ℤ) → OnInts o (λ i j. number one o (f i j)) → cellsBy (entry o .rule) 0 0 ≡ 0 → Short a → Short b → Computes f a b z → InRange z m r → PlainTwo a b m (op o) r
 number-word {a} {b} {z} {m} {r} o f w c sa sb g h = record {
   means = λ C. record {
     sinks = range-sinks z h;
@@ -110,13 +110,13 @@ number-word {a} {b} {z} {m} {r} o f w c sa sb g h = record {
   };
 }
 
-pub add-end : {a b z : Val} {m : Meter} {r : Ended} → Short a → Short b → Answers _+ℤ_ a b z → InRange z m r → PlainTwo a b m (op Op.add) r
+pub add-end : {a b z : Val} {m : Meter} {r : Ended} → Short a → Short b → Computes _+ℤ_ a b z → InRange z m r → PlainTwo a b m (op Op.add) r
 add-end sa sb g h = number-word Op.add _+ℤ_ on-add refl sa sb g h
 
-pub sub-end : {a b z : Val} {m : Meter} {r : Ended} → Short a → Short b → Answers _-ℤ_ a b z → InRange z m r → PlainTwo a b m (op Op.sub) r
+pub sub-end : {a b z : Val} {m : Meter} {r : Ended} → Short a → Short b → Computes _-ℤ_ a b z → InRange z m r → PlainTwo a b m (op Op.sub) r
 sub-end sa sb g h = number-word Op.sub _-ℤ_ on-sub refl sa sb g h
 
-pub mul-end : {a b z : Val} {m : Meter} {r : Ended} → Short a → Short b → Answers _*ℤ_ a b z → InRange z m r → PlainTwo a b m (op Op.mul) r
+pub mul-end : {a b z : Val} {m : Meter} {r : Ended} → Short a → Short b → Computes _*ℤ_ a b z → InRange z m r → PlainTwo a b m (op Op.mul) r
 mul-end sa sb g h = number-word Op.mul _*ℤ_ on-mul refl sa sb g h
 
 pub lt-end : {a b v : Val} {m : Meter} {t : Bool} → Short a → Short b → Less a b t → v ≡ truthVal t → PlainTwo a b m (op Op.lt) (Done v m)
@@ -131,12 +131,12 @@ lt-end {a} {b} {v} {m} {t} sa sb g e = record {
 }
 
 -- ---- division
-divided-zero : (i j : ℤ) {b : Val} → Holds b j → b .word + b .tag ≡ 0 → divided one i j ≡ falls
+divided-zero : (i j : ℤ) {b : Val} → HoldsInteger b j → b .word + b .tag ≡ 0 → divided one i j ≡ falls
 divided-zero i (pos zero) (holds-pos t w) e = refl
 divided-zero i (pos (suc n)) (holds-pos t w) e = absurd (omega arith)
 divided-zero i (negsuc n) (holds-neg t w) e = absurd (omega arith)
 
-divided-is : (i j : ℤ) {b : Val} → Holds b j → (b .word + b .tag ≡ 0 → ⊥) → divided one i j ≡ number one Op.div (quotZ i j)
+divided-is : (i j : ℤ) {b : Val} → HoldsInteger b j → (b .word + b .tag ≡ 0 → ⊥) → divided one i j ≡ number one Op.div (quotZ i j)
 divided-is i (pos zero) (holds-pos t w) e = absurd (e (omega arith))
 divided-is i (pos (suc n)) (holds-pos t w) e = refl
 divided-is i (negsuc n) (holds-neg t w) e = refl
@@ -149,7 +149,7 @@ div-zero {a} {b} {m} sa sb e = record {
       both-ints on-div x y p q ∙ divided-zero (p .number) (q .number) (q .holds) e);
 }
 
-pub div-end : {a b z : Val} {m : Meter} {r : Ended} → Short a → Short b → (b .word + b .tag ≡ 0 → ⊥) → Answers quotZ a b z → InRange z m r → PlainTwo a b m (op Op.div) r
+pub div-end : {a b z : Val} {m : Meter} {r : Ended} → Short a → Short b → (b .word + b .tag ≡ 0 → ⊥) → Computes quotZ a b z → InRange z m r → PlainTwo a b m (op Op.div) r
 div-end {a} {b} {z} {m} {r} sa sb e g h = record {
   means = λ C. record {
     sinks = range-sinks z h;

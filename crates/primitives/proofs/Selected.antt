@@ -16,7 +16,7 @@ use Rattle.language.specs.declared.Val.{Val}
 use Rattle.cells.specs.Cells.{Rep, rep-pos, rep-neg, rep-symbol, rep-nil, rep-more, free}
 use Rattle.cells.specs.Parts.{Sized, Tailed, Nth}
 use Rattle.cells.proofs.Lengths.{rep-length}
-use Rattle.arithmetic.specs.Integers.{Holds, holds-pos}
+use Rattle.arithmetic.specs.Integers.{HoldsInteger, holds-pos}
 use Rattle.primitives.specs.Ends.{Leaf}
 use Rattle.primitives.specs.Leaves.{Plain}
 use Rattle.primitives.specs.declared.Ended.the-variants.{Done, Stop}
@@ -172,10 +172,10 @@ length-atom h = record { means = λ C. leaf-falls (λ x o r. no-seq h r (λ xs. 
 length-given : (k : ℕ) → k < 2147483648 → number one Op.length (pos k) ≡ gives 0 0 (int (pos k))
 length-given k h = rw (lt-ltb k 2147483648 h, number)
 
-count-rep : (C : List ℕ) (n k : ℕ) {v : Val} → Holds v (pos k) → k < 2147483648 → Rep C n v (int (pos k))
+count-rep : (C : List ℕ) (n k : ℕ) {v : Val} → HoldsInteger v (pos k) → k < 2147483648 → Rep C n v (int (pos k))
 count-rep C n k (holds-pos t w) h = rep-pos t w h
 
-pub length-is : {v r : Val} {m : Meter} {n : ℕ} → v .tag ≡ 3 → Sized v n → Holds r (pos n) → Plain v m (op Op.length) (Done r m)
+pub length-is : {v r : Val} {m : Meter} {n : ℕ} → v .tag ≡ 3 → Sized v n → HoldsInteger r (pos n) → Plain v m (op Op.length) (Done r m)
 length-is {v} {r} {m} {n} h s g = record {
   means = λ C. record {
     sinks = (omega arith, refl);
@@ -183,7 +183,7 @@ length-is {v} {r} {m} {n} h s g = record {
         let q = seq-of h w in
         let u = free-under C m o in
         let e : n ≡ lengthOf (q .places) = s .means C (free C m) (q .places) u (q .rep) in
-        let f : Holds r (pos (lengthOf (q .places))) = rw e at g in
+        let f : HoldsInteger r (pos (lengthOf (q .places))) = rw e at g in
         let l : lengthOf (q .places) < 2147483648 = omega (arith, rep-length (q .places) (q .rep), free-low C m o) in
         rw (q .is) (end-plain (int (pos (lengthOf (q .places)))) o (length-given (lengthOf (q .places)) l) (count-rep C (free C m) (lengthOf (q .places)) f l));
   };

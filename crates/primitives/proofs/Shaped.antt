@@ -14,7 +14,7 @@ use Rattle.cells.specs.Cells.{Rep, rep-pos, rep-neg, rep-symbol, rep-nil, rep-m
 use Rattle.cells.specs.Parts.{Sized, Headed, Tailed}
 use Rattle.cells.proofs.Compared.{rep-T, rep-F}
 use Rattle.cells.proofs.Compared as compared
-use Rattle.arithmetic.specs.Integers.{Holds, holds-pos, holds-neg, Short, Small}
+use Rattle.arithmetic.specs.Integers.{HoldsInteger, holds-pos, holds-neg, Short, SmallInteger}
 use Rattle.primitives.specs.Shapes.{IsTwo, are-two, not-two, ReadTwo, isIntegerVal, truthVal, truthCode, ReadTruth, ReadAtom, ReadNull}
 use Rattle.primitives.specs.declared.Two.the-variants.{Both, Other}
 
@@ -71,14 +71,14 @@ short-of {v} {r} e h =
     let t = and-true (ltb (v .tag) 2) (ltb (v .word) 2147483648) (sym e ∙ not-false r h) in
     record { tag = ltb-true (v .tag) 2 (t .0); word = ltb-true (v .word) 2147483648 (t .1) }
 
-pub small-of : {v : Val} → Short v → Small v
+pub small-of : {v : Val} → Short v → SmallInteger v
 small-of s = record { tag = s .tag; word = omega (arith, s .word) }
 
 -- the integer of a value
 pub record IntegerOf (v : Val) (x : Obj) : Type 0 where
   pub number : ℤ
   pub is : x ≡ int number
-  pub holds : Holds v number
+  pub holds : HoldsInteger v number
 
 pub integer-of : {C : List ℕ} {n : ℕ} {v : Val} {x : Obj} → Short v → Rep C n v x → IntegerOf v x
 integer-of s (rep-pos {k = k} t e b) = record { number = pos k; is = refl; holds = holds-pos t e }

@@ -8,7 +8,7 @@ use lib.Dec.{eqb}
 use lib.ListN.{length}
 use borrow.Author.Tests.{eqb-true, not-true, not-false}
 use Rattle.language.specs.Objects.{Obj, int, symbol, seq, Objs, _::_, lengthOf}
-use Rattle.language.specs.Words.{Op, Entry}
+use Rattle.language.specs.Words.{Op}
 use Rattle.language.specs.Forms.{op}
 use Rattle.language.specs.Numbers.{one}
 use Rattle.language.specs.Meanings.{WordAnswer, falls, gives, meaning, transposed, widthOf, areRows, columnsAt}

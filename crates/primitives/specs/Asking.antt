@@ -2,7 +2,7 @@
 use Prim.Native.Nat.{ℕ, _≤_, _<_}
 use mathlib.Core.Path.{_≡_}
 use mathlib.Core.List.{List}
-use Rattle.language.specs.Words.{Op, CellRule, Entry, entry, cellsBy}
+use Rattle.language.specs.Words.{Op, CellRule, entry, cellsBy}
 use Rattle.language.specs.Charging.{cellsTaken}
 use Rattle.language.specs.declared.Meter.{Meter}
 use Rattle.cells.specs.Cells.{Room, free}

@@ -12,7 +12,7 @@ use Rattle.language.specs.Evaluation.{charged}
 use Rattle.language.specs.declared.Meter.{Meter}
 use Rattle.language.specs.declared.Val.{Val}
 use Rattle.cells.specs.Cells.{Rep, Room, free}
-use Rattle.sequences.specs.Making.{Built, allButLast}
+use Rattle.sequences.specs.Making.{Rearranged, allButLast}
 use Rattle.lexer.specs.Vocabulary.{opCode}
 use Rattle.primitives.specs.Ends.{Gives, Sinks, Leaf}
 use Rattle.primitives.specs.declared.Ended.{Ended}
@@ -81,7 +81,7 @@ pub data Orders : ℕ → Op → (Objs → Objs) → Type 0 where
   order-rotr : Orders 18 Op.rotr toRight
 
 pub record Arranged (C : List ℕ) (v : Val) (code n p : ℕ) (r : Val) (C′ : List ℕ) : Type 0 where
-  pub means : (o : Op) (f : Objs → Objs) → Orders code o f → Built f C v n p r C′
+  pub means : (o : Op) (f : Objs → Objs) → Orders code o f → Rearranged f C v n p r C′
 
 -- such a word on a sequence
 pub record Ordered (C : List ℕ) (v : Val) (m : Meter) (code : ℕ) (r : Ended) (C′ : List ℕ) : Type 0 where

@@ -1,5 +1,4 @@
 // Asking for a word's cells, by the rule that the table has for it.
-ghost use mathlib.Core.Path.{_≡_};
 ghost use Prim.Native.Nat.{_<_};
 ghost use Rattle.primitives.specs.Asking.{CellsAsked, Clipped, Reserving};
 use super::Reserved;

@@ -1,5 +1,4 @@
 // The words on two integers. A result out of range is bottom.
-ghost use Rattle.arithmetic.specs.Integers.{Short};
 ghost use Rattle.language.specs.Forms.{op};
 ghost use Rattle.language.specs.Words.{Op};
 ghost use Rattle.primitives.specs.Leaves.{PlainTwo};

@@ -20,7 +20,7 @@ use Rattle.theorems.proofs.Decimals.{decimal-digits}
 use Rattle.cells.specs.Cells.{Rep}
 use Rattle.packing.proofs.Packed.{symbol-bytes}
 use Rattle.cells.proofs.Inversions.{rep-object}
-use Rattle.objects.specs.Writings.{Walked, fits, too-long, too-deep, isFlat, ObjectWalked}
+use Rattle.objects.specs.Writings.{WalkedText, fits, too-long, too-deep, isFlat, ObjectWalked}
 use Rattle.objects.proofs.Walks.{flat-of}
 use Rattle.objects.proofs.Symbols.{symbol-flat}
 use Rattle.objects.proofs.Writes.{digit-flat}
@@ -128,7 +128,7 @@ module _ {C : List ℕ} {v : Val} {at : ℕ} {out : List ℕ} where
     pub constant-done : {e : ℕ} → r ≡ O.Done e → ConstantWalked C v at e out out′
     constant-done {e} q = record { means = λ n x c m rep. go x (w .means n x c rep) }
       where
-        go : (x : Obj) → Walked (writeObj x) 0 0 at 16384 r out out′ → Wrote (writeObj x) at e out out′
+        go : (x : Obj) → WalkedText (writeObj x) 0 0 at 16384 r out out′ → Wrote (writeObj x) at e out out′
         go x (fits f l s p) = let z : e ≡ at + length (writeObj x) = cc in record { place = omega arith; stands = λ a b. p b }
         go x (too-long f s) = let z : _≡_ {A = ℕ} 0 1 = cc in absurd (omega arith)
         go x (too-deep f s) = let z : _≡_ {A = ℕ} 0 1 = cc in absurd (omega arith)
@@ -137,7 +137,7 @@ module _ {C : List ℕ} {v : Val} {at : ℕ} {out : List ℕ} where
     long : {k : ℕ} (n : ℕ) (x : Obj) → n < 4294967296 → marksOfObj x ≤ 32 → Rep C n v x → ((e : ℕ) → r ≡ O.Done e → ⊥) → k ≡ 16385 → Wrote (writeObj x) at k out out′
     long {k} n x c m rep not-done e = go (w .means n x c rep)
       where
-        go : Walked (writeObj x) 0 0 at 16384 r out out′ → Wrote (writeObj x) at k out out′
+        go : WalkedText (writeObj x) 0 0 at 16384 r out out′ → Wrote (writeObj x) at k out out′
         go (fits f l s p) = absurd (not-done (at + length (writeObj x)) f)
         go (too-long f s) = let z = scan-long (writeObj x) 0 (16384 - at) s in record { place = omega arith; stands = λ a b. absurd (omega arith) }
         go (too-deep f s) = absurd (never-deep x (16384 - at) (rep-object rep) m s)

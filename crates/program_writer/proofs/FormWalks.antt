@@ -10,7 +10,7 @@ use Rattle.language.specs.Forms.{Form, word, Forms, stop, _&_, _+&_, count, isC
 use Rattle.language.specs.Writing.{writeForm, bracketed}
 use Rattle.language.specs.declared.Val.{Val}
 use Rattle.cells.specs.Cells.{valAt}
-use Rattle.formtable.specs.Standing.{kindAt, wordAt, parts, Row, row-op, row-select, row-selectRight, row-name, row-chain, row-construct, row-insert, row-applyAll, row-condition, row-while, row-constant, row-bu, Stands, a-form}
+use Rattle.formtable.specs.Standing.{kindAt, wideAt, parts, Row, row-op, row-select, row-selectRight, row-name, row-chain, row-construct, row-insert, row-applyAll, row-condition, row-while, row-constant, row-bu, Stands, a-form}
 use Rattle.formtable.proofs.Standing.{stands-up, arity-of}
 use Rattle.program_writer.specs.declared.Way.{Way}
 use Rattle.program_writer.specs.Layout.{takesPart, takesKind, behindPart, partText, partsText}
@@ -65,7 +65,7 @@ module _ {t C : List ℕ} {i at arity p q : ℕ} {row : Val} {w : Way} {out out�
       kind : row .tag ≡ kindAt t i
       kind = ap (λ (v : Val). v .tag) e
 
-      value : row .word ≡ wordAt t i
+      value : row .word ≡ wideAt t i
       value = ap (λ (v : Val). v .word) e
 
       whole : (n e : ℕ) (f : Form) (gs : Forms) → n < 4294967296 → e ≤ 2048 → Writable f → Stands t C n i (f & gs) e → Went t C n (writeForm f) gs e at (record { next = w .next; place = q }) out out₃

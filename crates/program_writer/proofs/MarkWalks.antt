@@ -13,7 +13,7 @@ use Rattle.language.specs.Writing.{bracketMarks, marksOf, marksOfObj, marksOfOb
 use Rattle.language.specs.declared.Val.{Val}
 use Rattle.cells.specs.Cells.{Rep, rep-pos, rep-neg, rep-symbol, rep-nil, rep-more, valAt}
 use Rattle.cells.specs.Parts.{Sized, Headed, Tailed}
-use Rattle.formtable.specs.Standing.{kindAt, wordAt, parts, Row, row-op, row-select, row-selectRight, row-name, row-chain, row-construct, row-insert, row-applyAll, row-condition, row-while, row-constant, row-bu, Stands}
+use Rattle.formtable.specs.Standing.{kindAt, wideAt, parts, Row, row-op, row-select, row-selectRight, row-name, row-chain, row-construct, row-insert, row-applyAll, row-condition, row-while, row-constant, row-bu, Stands}
 use Rattle.program_writer.specs.declared.Depth.{Depth}
 use Rattle.program_writer.specs.Layout.{takesPart, takesKind, partMarks, partsMarks, ownMarks}
 use Rattle.program_writer.specs.Depths.{ObjectDepth, PlacesDepth, OwnDepth, Deep, FormDepth, PartDepth, PartsDepth}
@@ -136,7 +136,7 @@ module _ {C : List ℕ} {row : Val} where
   own-none h = record { means = λ t n i f c e w r. no-own h e r }
 
   module _ {m : ℕ} (h : 12 ≤ row .tag) (o : ObjectDepth C (record { tag = row .tag % 4; word = row .word }) 33 m) where
-    of-row : {t : List ℕ} {n i : ℕ} {f : Form} → n < 4294967296 → row .tag ≡ kindAt t i → row .word ≡ wordAt t i → Row t C n i f → m ≡ min (ownMarks f) 33
+    of-row : {t : List ℕ} {n i : ℕ} {f : Form} → n < 4294967296 → row .tag ≡ kindAt t i → row .word ≡ wideAt t i → Row t C n i f → m ≡ min (ownMarks f) 33
     unfolding ownMarks
     of-row c e v (row-op q a w) = absurd (omega arith)
     of-row c e v (row-select q a w) = absurd (omega arith)
@@ -194,7 +194,7 @@ module _ {t C : List ℕ} {i arity own inside : ℕ} {row : Val} {d : Depth} (e 
   of-form n l f gs c h s =
       let r = first-row s in
       let kind : row .tag ≡ kindAt t i = ap (λ (v : Val). v .tag) e in
-      let value : row .word ≡ wordAt t i = ap (λ (v : Val). v .word) e in
+      let value : row .word ≡ wideAt t i = ap (λ (v : Val). v .word) e in
       let k = ps .means n l i f (parts f) gs c h kind r (a ∙ arity-of r) (rest-stands s) in
       let p = k .marks in
       let q = o .means t n i f c kind value r in

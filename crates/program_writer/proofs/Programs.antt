@@ -16,7 +16,7 @@ use Rattle.program_writer.specs.declared.Depth.{Depth}
 use Rattle.program_writer.specs.declared.Written.the-variants as W
 use Rattle.program_writer.specs.Walks.{Wrote, NameWalked, Writable, FormWalked}
 use Rattle.program_writer.specs.Depths.{FormDepth}
-use Rattle.program_writer.specs.Programs.{nameAt, Named, a-name, Holds, DefinitionWalked, ProgramWalked, ProgramDepth, TextMeasured, Outcome, done, no-room, ProgramWritten}
+use Rattle.program_writer.specs.Programs.{nameAt, Named, a-name, Holds, DefinitionWalked, ProgramWalked, ProgramDepth, TextMeasured, ProgramEnd, program-written, no-room, ProgramWritten}
 use Rattle.program_writer.proofs.Wrote.{wrote-none, wrote-then, wrote-as}
 use Rattle.program_writer.proofs.MarkWalks.{turn}
 
@@ -179,8 +179,8 @@ module _ {t C D : List ℕ} {defs l : ℕ} where
             means = λ n e P a f. whole (writeProgram P) (w .means n e P a f) (v .means n e P a f);
           }
         where
-          whole : (text : List ℕ) → l ≡ min (length text) 16385 → Wrote text 0 r out out′ → Outcome text (W.Done l) out out′
+          whole : (text : List ℕ) → l ≡ min (length text) 16385 → Wrote text 0 r out out′ → ProgramEnd text (W.Done l) out out′
           whole text x y =
               let e : l ≡ length text = omega arith in
               let z : 0 + length text ≡ length text = omega arith in
-              done (omega arith) (ap (λ (k : ℕ). W.Done k) e) (y .stands (omega arith) (omega arith) ∙ ap (λ (k : ℕ). text ++ drop k out) z)
+              program-written (omega arith) (ap (λ (k : ℕ). W.Done k) e) (y .stands (omega arith) (omega arith) ∙ ap (λ (k : ℕ). text ++ drop k out) z)

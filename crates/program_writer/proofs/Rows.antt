@@ -24,7 +24,7 @@ use Rattle.lexer.specs.Packing as lexed
 use Rattle.packing.specs.declared.Case.the-variants.{Lower}
 use Rattle.packing.proofs.Packed.{name-back}
 use Rattle.lexer.proofs.Words.{spelled-of, code-below}
-use Rattle.formtable.specs.Standing.{kindAt, wordAt, Row, row-op, row-select, row-selectRight, row-name, row-chain, row-construct, row-insert, row-applyAll, row-condition, row-while, row-constant, row-bu}
+use Rattle.formtable.specs.Standing.{kindAt, wideAt, Row, row-op, row-select, row-selectRight, row-name, row-chain, row-construct, row-insert, row-applyAll, row-condition, row-while, row-constant, row-bu}
 use Rattle.program_writer.specs.Layout.{takesPart, takesKind, opening, behindPart, behindChain, behindConstruct, behindCondition, behindWhile, ending}
 use Rattle.program_writer.specs.Walks.{Wrote, NameWalked, ConstantWalked, MarkBehind, OpeningMark, Writable, BehindWalked, PlainWalked, OpeningWalked, EndingWalked}
 use Rattle.program_writer.proofs.Wrote.{wrote-none, wrote-then, wrote-as}
@@ -142,7 +142,7 @@ module _ {C : List ℕ} {row : Val} {b at : ℕ} {out : List ℕ} (low : 5 ≤ r
   open-mark h g v = record { means = λ t n i f c e w d r. wrote-as (mark-text low m e h g r) v }
 
   module _ {p q : ℕ} {out₁ out₂ : List ℕ} (h : b ≡ 37) (v : Wrote (b ∷ []) at p out out₁) (o : ConstantWalked C (record { tag = row .tag % 4; word = row .word }) p q out₁ out₂) where
-    constant-text : {t : List ℕ} {n i : ℕ} (f : Form) → n < 4294967296 → row .tag ≡ kindAt t i → row .word ≡ wordAt t i → Writable f → Row t C n i f → Wrote (opening f) at q out out₂
+    constant-text : {t : List ℕ} {n i : ℕ} (f : Form) → n < 4294967296 → row .tag ≡ kindAt t i → row .word ≡ wideAt t i → Writable f → Row t C n i f → Wrote (opening f) at q out out₂
     unfolding opening
     constant-text f c e w d (row-op y a z) = absurd (omega arith)
     constant-text f c e w d (row-select y a z) = absurd (omega arith)
@@ -183,7 +183,7 @@ module _ {C : List ℕ} {row : Val} {at : ℕ} {out : List ℕ} where
   end-none h = record { means = λ t n i f c e w d r. wrote-as (no-ending h e r) wrote-none }
 
   module _ {p q : ℕ} {out₁ out₂ : List ℕ} (h : 16 ≤ row .tag) (o : ConstantWalked C (record { tag = row .tag % 4; word = row .word }) at p out out₁) (v : Wrote (125 ∷ []) p q out₁ out₂) where
-    bu-text : {t : List ℕ} {n i : ℕ} (f : Form) → n < 4294967296 → row .tag ≡ kindAt t i → row .word ≡ wordAt t i → Writable f → Row t C n i f → Wrote (ending f) at q out out₂
+    bu-text : {t : List ℕ} {n i : ℕ} (f : Form) → n < 4294967296 → row .tag ≡ kindAt t i → row .word ≡ wideAt t i → Writable f → Row t C n i f → Wrote (ending f) at q out out₂
     unfolding ending
     bu-text f c e w d (row-op y a z) = absurd (omega arith)
     bu-text f c e w d (row-select y a z) = absurd (omega arith)
@@ -212,7 +212,7 @@ module _ {v at r n : ℕ} {old new out out′ : List ℕ} where
           ap (λ (l : List ℕ). take n l) (u .bytes) ∙ take-at (lexed.unpacked Lower v) _ n (sym (u .size)) ∙ back
 
 -- ---- words, selectors and names
-word-text : {t C : List ℕ} {n i k v : ℕ} {f : Form} → k ≡ 1 → k ≡ kindAt t i → v ≡ wordAt t i → Row t C n i f → spelledAt (v % 4294967296) ≡ opening f
+word-text : {t C : List ℕ} {n i k v : ℕ} {f : Form} → k ≡ 1 → k ≡ kindAt t i → v ≡ wideAt t i → Row t C n i f → spelledAt (v % 4294967296) ≡ opening f
 unfolding opening writeWord
 word-text {v = v} h e w (row-op {o = o} q a z) =
     let l = code-below o in
@@ -239,7 +239,7 @@ module _ {C : List ℕ} {row : Val} {at r : ℕ} {out out′ : List ℕ} where
   plain-word h v = record { means = λ t n i f c e w l d s. wrote-as (word-text h e w s) v }
 
   module _ (h : row .tag ≡ 4) (v : NameWalked (row .word) at r out out′) where
-    name-text : {t : List ℕ} {n i : ℕ} {f : Form} → row .tag ≡ kindAt t i → row .word ≡ wordAt t i → Writable f → Row t C n i f → Wrote (opening f) at r out out′
+    name-text : {t : List ℕ} {n i : ℕ} {f : Form} → row .tag ≡ kindAt t i → row .word ≡ wideAt t i → Writable f → Row t C n i f → Wrote (opening f) at r out out′
     unfolding opening
     name-text e w d (row-op q a z) = absurd (omega arith)
     name-text e w d (row-select q a z) = absurd (omega arith)
@@ -258,7 +258,7 @@ module _ {C : List ℕ} {row : Val} {at r : ℕ} {out out′ : List ℕ} where
     plain-name = record { means = λ t n i f c e w l d s. name-text e w d s }
 
   module _ (o : ConstantWalked C (record { tag = 0; word = row .word }) at r out out′) where
-    select-text : {t : List ℕ} {n i : ℕ} {f : Form} → (row .tag ≡ 1 → ⊥) → (row .tag ≡ 4 → ⊥) → (row .tag ≡ 3 → ⊥) → n < 4294967296 → row .tag ≡ kindAt t i → row .word ≡ wordAt t i → row .tag < 5 → Writable f → Row t C n i f → Wrote (opening f) at r out out′
+    select-text : {t : List ℕ} {n i : ℕ} {f : Form} → (row .tag ≡ 1 → ⊥) → (row .tag ≡ 4 → ⊥) → (row .tag ≡ 3 → ⊥) → n < 4294967296 → row .tag ≡ kindAt t i → row .word ≡ wideAt t i → row .tag < 5 → Writable f → Row t C n i f → Wrote (opening f) at r out out′
     unfolding opening writeWord
     select-text p1 p4 p3 c e w l d (row-op q a z) = absurd (p1 (e ∙ q))
     select-text {n = n} p1 p4 p3 c e w l d (row-select {k = k} q a z) = number o n k c (w ∙ z) (d .good .1)
@@ -277,7 +277,7 @@ module _ {C : List ℕ} {row : Val} {at r : ℕ} {out out′ : List ℕ} where
     plain-select p1 p4 p3 = record { means = λ t n i f c e w l d s. select-text p1 p4 p3 c e w l d s }
 
     module _ {r₂ : ℕ} {out₂ : List ℕ} (h : row .tag ≡ 3) (v : Wrote (114 ∷ []) r r₂ out′ out₂) where
-      right-text : {t : List ℕ} {n i : ℕ} {f : Form} → n < 4294967296 → row .tag ≡ kindAt t i → row .word ≡ wordAt t i → Writable f → Row t C n i f → Wrote (opening f) at r₂ out out₂
+      right-text : {t : List ℕ} {n i : ℕ} {f : Form} → n < 4294967296 → row .tag ≡ kindAt t i → row .word ≡ wideAt t i → Writable f → Row t C n i f → Wrote (opening f) at r₂ out out₂
       unfolding opening writeWord
       right-text c e w d (row-op q a z) = absurd (omega arith)
       right-text c e w d (row-select q a z) = absurd (omega arith)

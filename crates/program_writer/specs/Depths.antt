@@ -8,7 +8,7 @@ use Rattle.language.specs.Forms.{Form, Forms, _&_, _+&_, count}
 use Rattle.language.specs.Writing.{marksOf, marksOfObj, marksOfObjs}
 use Rattle.language.specs.declared.Val.{Val}
 use Rattle.cells.specs.Cells.{Rep}
-use Rattle.formtable.specs.Standing.{kindAt, wordAt, Row, Stands}
+use Rattle.formtable.specs.Standing.{kindAt, wideAt, Row, Stands}
 use Rattle.program_writer.specs.declared.Depth.{Depth}
 use Rattle.program_writer.specs.Layout.{partMarks, partsMarks, ownMarks}
 
@@ -22,7 +22,7 @@ pub record PlacesDepth (C : List ℕ) (v : Val) (limit r : ℕ) : Type 0 where
 
 -- `row` is a record's kind and word
 pub record OwnDepth (C : List ℕ) (row : Val) (r : ℕ) : Type 0 where
-  pub means : (t : List ℕ) (n i : ℕ) (f : Form) → n < 4294967296 → row .tag ≡ kindAt t i → row .word ≡ wordAt t i → Row t C n i f → r ≡ min (ownMarks f) 33
+  pub means : (t : List ℕ) (n i : ℕ) (f : Form) → n < 4294967296 → row .tag ≡ kindAt t i → row .word ≡ wideAt t i → Row t C n i f → r ≡ min (ownMarks f) 33
 
 -- the marks are m, up to 33, and from the record that was come to the forms fs stand up to e
 pub record Deep (t C : List ℕ) (n m : ℕ) (fs : Forms) (e : ℕ) (r : Depth) : Type 0 where

@@ -57,10 +57,10 @@ pub record ProgramMeasured (t C D : List ℕ) (defs : ℕ) (r : Measured) : Type
   pub marks : (n e : ℕ) (P : Prog) → n < 4294967296 → e ≤ formLimit → length P ≡ defs → Stands t C n 0 (bodies P) e → r .marks ≡ min (marksOfProgram P) (suc markLimit)
 
 -- All of the text stands in front and the rest of the output is as it was; or nothing has changed.
-pub data Outcome (text : List ℕ) (r : Written) (out out′ : List ℕ) : Type 0 where
-  done : length text ≤ min (length out) writtenLimit → r ≡ W.Done (length text) → out′ ≡ text ++ drop (length text) out → Outcome text r out out′
-  no-room : min (length out) writtenLimit < length text → r ≡ W.Short → out′ ≡ out → Outcome text r out out′
+pub data ProgramEnd (text : List ℕ) (r : Written) (out out′ : List ℕ) : Type 0 where
+  program-written : length text ≤ min (length out) writtenLimit → r ≡ W.Done (length text) → out′ ≡ text ++ drop (length text) out → ProgramEnd text r out out′
+  no-room : min (length out) writtenLimit < length text → r ≡ W.Short → out′ ≡ out → ProgramEnd text r out out′
 
 pub record ProgramWritten (t C D : List ℕ) (defs : ℕ) (r : Written) (out out′ : List ℕ) : Type 0 where
   pub fits : (l : ℕ) → r ≡ W.Done l → l ≤ min (length out) writtenLimit
-  pub means : (n e : ℕ) (P : Prog) → Holds t C D defs n e P → marksOfProgram P ≤ markLimit → Outcome (writeProgram P) r out out′
+  pub means : (n e : ℕ) (P : Prog) → Holds t C D defs n e P → marksOfProgram P ≤ markLimit → ProgramEnd (writeProgram P) r out out′

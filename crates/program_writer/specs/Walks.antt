@@ -13,7 +13,7 @@ use Rattle.language.specs.Writing.{writeObj, writeForm, marksOf, marksOfObj}
 use Rattle.language.specs.declared.Val.{Val}
 use Rattle.tables.specs.Tables.{put}
 use Rattle.cells.specs.Cells.{Rep}
-use Rattle.formtable.specs.Standing.{kindAt, wordAt, Row, Stands}
+use Rattle.formtable.specs.Standing.{kindAt, wideAt, Row, Stands}
 use Rattle.program_writer.specs.declared.Way.{Way}
 use Rattle.program_writer.specs.Layout.{opening, behindPart, ending, partText, partsText}
 
@@ -75,13 +75,13 @@ pub record BehindWalked (k left at r : ℕ) (out out′ : List ℕ) : Type 0 whe
 
 -- `row` is a record's kind and word
 pub record PlainWalked (C : List ℕ) (row : Val) (at r : ℕ) (out out′ : List ℕ) : Type 0 where
-  pub means : (t : List ℕ) (n i : ℕ) (f : Form) → n < 4294967296 → row .tag ≡ kindAt t i → row .word ≡ wordAt t i → row .tag < 5 → Writable f → Row t C n i f → Wrote (opening f) at r out out′
+  pub means : (t : List ℕ) (n i : ℕ) (f : Form) → n < 4294967296 → row .tag ≡ kindAt t i → row .word ≡ wideAt t i → row .tag < 5 → Writable f → Row t C n i f → Wrote (opening f) at r out out′
 
 pub record OpeningWalked (C : List ℕ) (row : Val) (at r : ℕ) (out out′ : List ℕ) : Type 0 where
-  pub means : (t : List ℕ) (n i : ℕ) (f : Form) → n < 4294967296 → row .tag ≡ kindAt t i → row .word ≡ wordAt t i → Writable f → Row t C n i f → Wrote (opening f) at r out out′
+  pub means : (t : List ℕ) (n i : ℕ) (f : Form) → n < 4294967296 → row .tag ≡ kindAt t i → row .word ≡ wideAt t i → Writable f → Row t C n i f → Wrote (opening f) at r out out′
 
 pub record EndingWalked (C : List ℕ) (row : Val) (at r : ℕ) (out out′ : List ℕ) : Type 0 where
-  pub means : (t : List ℕ) (n i : ℕ) (f : Form) → n < 4294967296 → row .tag ≡ kindAt t i → row .word ≡ wordAt t i → Writable f → Row t C n i f → Wrote (ending f) at r out out′
+  pub means : (t : List ℕ) (n i : ℕ) (f : Form) → n < 4294967296 → row .tag ≡ kindAt t i → row .word ≡ wideAt t i → Writable f → Row t C n i f → Wrote (ending f) at r out out′
 
 -- a text was walked over, and from the record that the walk has come to the forms fs stand up to e
 pub record Went (t C : List ℕ) (n : ℕ) (text : List ℕ) (fs : Forms) (e at : ℕ) (r : Way) (out out′ : List ℕ) : Type 0 where

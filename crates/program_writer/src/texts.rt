@@ -1,7 +1,6 @@
 // Walks over words, names and constants. A walk gives the place behind its text, and writes only where the output has room:
 // so the same walk measures, and then writes.
-ghost use mathlib.Core.Path.{_≡_};
-ghost use mathlib.Core.List.{List, [], _∷_};
+ghost use mathlib.Core.List.{[], _∷_};
 ghost use Prim.Native.Nat.{_≤_};
 ghost use lib.ListN.{length, take};
 ghost use Rattle.lexer.specs.Vocabulary.{spelledAt};

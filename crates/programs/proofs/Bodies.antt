@@ -18,7 +18,7 @@ use Rattle.theorems.proofs.Outcomes.{meets, Meets, refuses, MeetsWord, meetsWor
 use Rattle.theorems.proofs.JudgedWords.{IsNameIn, judged-name}
 use Rattle.theorems.proofs.Refusals.{first-within}
 use Rattle.theorems.proofs.Calls.{definitions-calls}
-use Rattle.lexer.specs.Readings.{Sized}
+use Rattle.lexer.specs.Readings.{WordSized}
 use Rattle.lexer.specs.Judgements.{nameJudged}
 use Rattle.lexer.specs.declared.NameJudged.{NameJudged}
 use Rattle.lexer.specs.declared.NameJudged.the-variants as N
@@ -91,7 +91,7 @@ not-judged : (j : Judged (List ℕ)) {k : ℕ} → nameJudged j ≡ N.Not k → 
 not-judged (is w) e = absurd (let z : _≡_ {A = ℕ} 0 1 = cc in omega arith)
 not-judged (isNot n) e = cc
 
-module _ {s : List ℕ} {p size : ℕ} {j : NameJudged} (i : Sized s p size) (h : j ≡ nameJudged (judgeName (slice p (p + size) s))) where
+module _ {s : List ℕ} {p size : ℕ} {j : NameJudged} (i : WordSized s p size) (h : j ≡ nameJudged (judgeName (slice p (p + size) s))) where
   judged-here : nameJudged (judgeName (wordAt s p)) ≡ j
   judged-here = ap (λ (x : ℕ). nameJudged (judgeName (slice p (p + x) s))) (sym (i .is)) ∙ sym h
 
@@ -117,9 +117,6 @@ module _ {s : List ℕ} {p size : ℕ} {j : NameJudged} (i : Sized s p size) (h 
           let y = form-got m g in
           rw (begins ∙ ap (λ (x : Got Form). andThen x (λ f e₁. got (placed p (named .called) f) e₁)) (y .is))
           (placed-read refl refl (named .good) (y .laid) (run-record (rw (named .packs) at (w .is))))
-
-pub definition-ready : {s : List ℕ} {p n c size : ℕ} → Ready s p n c → Sized s p size → Ready s (p + size) n c
-definition-ready b i = record { short = b .short; inside = omega (arith, b .inside, i .high); forms = omega (arith, b .forms); cells = omega (arith, b .cells) }
 
 -- ---- a definition is read from its name on, and then the others
 module _ (s : List ℕ) (p : ℕ) where

@@ -19,7 +19,7 @@ use Rattle.formtable.proofs.Lengths.{length-definitions}
 use Rattle.formtable.proofs.Names.{name-test}
 use Rattle.formtable.specs.Encoding.{lowOf, highOf, encodeDefinitions, named}
 use Rattle.programs.specs.declared.TwiceRead.the-variants as T
-use Rattle.programs.specs.Definitions.{AllNamed, none-named, more-named, nameAt, placeAt, earlierOf, Listed, Compared, TwiceMet}
+use Rattle.programs.specs.Definitions.{AllNamed, none-named, more-named, definedName, placeAt, earlierOf, Listed, Compared, TwiceMet}
 
 -- ---- is_earlier
 later : (w : List ℕ) (ds : List Placed) (j i : ℕ) → j ≤ i → isIn w (earlierOf ds j) ≡ true → isIn w (earlierOf ds i) ≡ true
@@ -34,27 +34,27 @@ later w ds (suc j) (suc i) l h = go (eqb i j) refl (λ k. later w ds (suc j) i k
 
     go : (t : Bool) → eqb i j ≡ t → (suc j ≤ i → isIn w (earlierOf ds i) ≡ true) → isIn w (earlierOf ds (suc i)) ≡ true
     go true e f = rw (eqb-true i j e) h
-    go false e f = let n = eqb-false i j e in right (sameBytes (nameAt ds i) w) (f (omega arith))
+    go false e f = let n = eqb-false i j e in right (sameBytes (definedName ds i) w) (f (omega arith))
 
 -- no definition before j has the name of definition i
 pub record Unlike (d : List ℕ) (i j : ℕ) : Type 0 where
   pub most : j ≤ i
-  pub means : (ds : List Placed) → Listed d ds → i < length ds → isIn (nameAt ds i) (earlierOf ds j) ≡ false
+  pub means : (ds : List Placed) → Listed d ds → i < length ds → isIn (definedName ds i) (earlierOf ds j) ≡ false
 
 pub unlike-starts : {d : List ℕ} {i : ℕ} → Unlike d i 0
 unfolding isIn earlierOf
 unlike-starts = record { most = omega arith; means = λ ds l h. refl }
 
 module _ {d : List ℕ} {i j lo hi : ℕ} {r : Bool} (a : lo ≡ getD d (i * 4) 0) (b : hi ≡ field d i 1) (w : Unlike d i j) (l : j < i) (m : r ≡ named d j lo hi) where
-  same-names : (ds : List Placed) → Listed d ds → i < length ds → sameBytes (nameAt ds j) (nameAt ds i) ≡ r
+  same-names : (ds : List Placed) → Listed d ds → i < length ds → sameBytes (definedName ds j) (definedName ds i) ≡ r
   unfolding named
   same-names ds t h =
-      sym (name-test (nameAt ds j) (nameAt ds i) (t .named j (omega arith)) (t .named i h))
+      sym (name-test (definedName ds j) (definedName ds i) (t .named j (omega arith)) (t .named i h))
       ∙ rw (← (t .low j (omega arith)), ← (t .high j (omega arith)), ← (t .low i h), ← (t .high i h), ← a, ← b) (sym m)
 
   pub earlier-found : r ≡ true → Compared d i true
   unfolding isIn earlierOf
-  earlier-found e = record { means = λ ds t h. sym (later (nameAt ds i) ds (suc j) i (omega arith) (rw (same-names ds t h ∙ e))) }
+  earlier-found e = record { means = λ ds t h. sym (later (definedName ds i) ds (suc j) i (omega arith) (rw (same-names ds t h ∙ e))) }
 
   pub earlier-next : r ≡ false → Unlike d i (j + 1)
   unfolding isIn earlierOf
@@ -67,7 +67,7 @@ earlier-none {i = i} {j = j} w l = let z : j ≡ i = omega (arith, w .most) in r
 record Split (ds : List Placed) (i : ℕ) : Type 0 where
   here : Placed
   rest : drop i ds ≡ here ∷ drop (suc i) ds
-  name : nameAt ds i ≡ here .def .called
+  name : definedName ds i ≡ here .def .called
   place : placeAt ds i ≡ here .place
 
 split : (ds : List Placed) (i : ℕ) → i < length ds → Split ds i
@@ -108,7 +108,7 @@ unfolding noneTwice
 twice-none {i = i} w l = record { means = λ ds good t h. w .means ds good t h ∙ rw (drop-all ds i (omega arith)) }
 
 -- ---- what the table holds
-records : (r : ℕ) (ds : List Placed) (i : ℕ) → i < length ds → (getD (encodeDefinitions r ds) (i * 4) 0 ≡ lowOf (packed (nameAt ds i))) × (getD (encodeDefinitions r ds) (i * 4 + 1) 0 ≡ highOf (packed (nameAt ds i))) × (getD (encodeDefinitions r ds) (i * 4 + 3) 0 ≡ placeAt ds i)
+records : (r : ℕ) (ds : List Placed) (i : ℕ) → i < length ds → (getD (encodeDefinitions r ds) (i * 4) 0 ≡ lowOf (packed (definedName ds i))) × (getD (encodeDefinitions r ds) (i * 4 + 1) 0 ≡ highOf (packed (definedName ds i))) × (getD (encodeDefinitions r ds) (i * 4 + 3) 0 ≡ placeAt ds i)
 unfolding encodeDefinitions
 records r [] i h = absurd (omega arith)
 records r (d ∷ ds) zero h = (refl, refl, refl)
@@ -119,7 +119,7 @@ records r (d ∷ ds) (suc i) h =
     let z₃ : suc i * 4 + 3 ≡ suc (suc (suc (suc (i * 4 + 3)))) = omega arith in
     (rw z₀ (q .0), rw z₁ (q .1), rw z₃ (q .2))
 
-named-at : (ds : List Placed) → AllNamed ds → (i : ℕ) → i < length ds → IsName (nameAt ds i)
+named-at : (ds : List Placed) → AllNamed ds → (i : ℕ) → i < length ds → IsName (definedName ds i)
 named-at [] none-named i h = absurd (omega arith)
 named-at (d ∷ ds) (more-named e n) zero h = e
 named-at (d ∷ ds) (more-named e n) (suc i) h = named-at ds n i (omega arith)

@@ -25,8 +25,8 @@ use Rattle.forms.specs.Readings.{Run, Laid, FormLaid}
 abbrev pub namesOf : List Placed → List (List ℕ)
 namesOf ds = map (λ (d : Placed). d .def .called) ds
 
-abbrev pub nameAt : List Placed → ℕ → List ℕ
-nameAt ds i = getD (namesOf ds) i []
+abbrev pub definedName : List Placed → ℕ → List ℕ
+definedName ds i = getD (namesOf ds) i []
 
 abbrev pub placeAt : List Placed → ℕ → ℕ
 placeAt ds i = getD (map (λ (d : Placed). d .place) ds) i 0
@@ -52,17 +52,17 @@ pub data DefinitionsMet (t u d : List ℕ) (r : DefinitionsRead) (t′ u′ d′
 -- the names before definition i, the nearest first
 unfoldable pub earlierOf : List Placed → ℕ → List (List ℕ)
 earlierOf ds zero = []
-earlierOf ds (suc i) = nameAt ds i ∷ earlierOf ds i
+earlierOf ds (suc i) = definedName ds i ∷ earlierOf ds i
 
 -- the table holds the names and places of the definitions
 pub record Listed (d : List ℕ) (ds : List Placed) : Type 0 where
-  pub low : (i : ℕ) → i < length ds → getD d (i * 4) 0 ≡ lowOf (packed (nameAt ds i))
-  pub high : (i : ℕ) → i < length ds → field d i 1 ≡ highOf (packed (nameAt ds i))
+  pub low : (i : ℕ) → i < length ds → getD d (i * 4) 0 ≡ lowOf (packed (definedName ds i))
+  pub high : (i : ℕ) → i < length ds → field d i 1 ≡ highOf (packed (definedName ds i))
   pub place : (i : ℕ) → i < length ds → field d i 3 ≡ placeAt ds i
-  pub named : (i : ℕ) → i < length ds → IsName (nameAt ds i)
+  pub named : (i : ℕ) → i < length ds → IsName (definedName ds i)
 
 pub record Compared (d : List ℕ) (i : ℕ) (r : Bool) : Type 0 where
-  pub means : (ds : List Placed) → Listed d ds → i < length ds → r ≡ isIn (nameAt ds i) (earlierOf ds i)
+  pub means : (ds : List Placed) → Listed d ds → i < length ds → r ≡ isIn (definedName ds i) (earlierOf ds i)
 
 abbrev pub twiceOf : TwiceRead → Got Prog → Got Prog
 twiceOf (T.At p) good = no 11 p

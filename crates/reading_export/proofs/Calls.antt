@@ -1,13 +1,13 @@
 -- A law for each way out of the two calls.
-use Prim.Native.Nat.{ℕ, _+_, _*_, _≤_, _<_}
-use mathlib.Core.Path.{_≡_, refl, ap, sym, _∙_}
+use Prim.Native.Nat.{ℕ, _+_, _≤_, _<_}
+use mathlib.Core.Path.{_≡_, ap, sym, _∙_}
 use mathlib.Core.List.{List}
 use native.Mathlib.Omega.{arith}
 use lib.ListN.{length}
 use borrow.Author.Tests.{lt-ltb, le-ltb, eq-eqb, ne-eqb}
 use Rattle.language.specs.Objects.{Obj, cellsOf}
-use Rattle.language.specs.Forms.{Prog, formsOf}
-use Rattle.language.specs.Reading.{Got, got, no, readObject, readProgram}
+use Rattle.language.specs.Forms.{Prog}
+use Rattle.language.specs.Reading.{Got, readObject, readProgram}
 use Rattle.language.specs.declared.Val.{Val}
 use Rattle.objects.specs.declared.ObjectRead.{ObjectRead}
 use Rattle.objects.specs.declared.ObjectRead.the-variants as O

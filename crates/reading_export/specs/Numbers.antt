@@ -1,10 +1,10 @@
 -- What a reading call answers, as one number: an answer's number times 2^32, and its place; with 20 how many forms or cells.
 use Prim.Native.Nat.{ℕ, _+_, _*_, _%_}
-use mathlib.Core.Bool.{cond, _||_, not}
+use mathlib.Core.Bool.{cond, not}
 use mathlib.Core.List.{List}
 use lib.Dec.{ltb, eqb}
 use lib.ListN.{length}
-use Rattle.language.specs.Numbers.{programLimit, objectLimit, definitionLimit, formTableSize, one}
+use Rattle.language.specs.Numbers.{programLimit, objectLimit, definitionLimit, formTableSize}
 use Rattle.language.specs.Objects.{Obj, cellsOf}
 use Rattle.language.specs.Forms.{Prog, formsOf}
 use Rattle.language.specs.Reading.{Got, got, no, readObject, readProgram}

@@ -14,7 +14,7 @@ use Rattle.cells.specs.Cells.{Rep, cellPut}
 use Rattle.cells.specs.Parts.{dropObjs, Headed, Tailed}
 use Rattle.cells.proofs.Reps.{same-refl, same-fewer, same-trans, rep-ext, cell-same, length-cell}
 use Rattle.sequences.specs.Making.{Space}
-use Rattle.sequences.specs.Lines.{linkOver, Place, Line, Copies, Copied}
+use Rattle.sequences.specs.Lines.{linkOver, Place, Line, Copies, CopiedLine}
 use Rattle.cells.proofs.Places.{drop-first}
 use Rattle.sequences.proofs.Segments.{place-ext, place-new}
 
@@ -48,7 +48,7 @@ pub record Copying (C₀ : List ℕ) (v : Val) (n p d : ℕ) (C : List ℕ) (ahe
   pub len : length C ≡ length C₀
   pub means : (xs : Objs) → n ≤ lengthOf xs → Space C₀ p (n + d) → Rep C₀ p v (seq xs) → Copies C₀ p d xs q ahead C
 
-pub copy-far : {C C′ : List ℕ} {v r : Val} {n p d : ℕ} → 4294967295 - p < n → Copied C v n p d r C′
+pub copy-far : {C C′ : List ℕ} {v r : Val} {n p d : ℕ} → 4294967295 - p < n → CopiedLine C v n p d r C′
 copy-far h = record { means = λ xs l s rv. absurd (omega (arith, s .far)) }
 
 pub copy-start : {C : List ℕ} {v : Val} {n p d : ℕ} → n ≤ 4294967295 - p → p < 4294967296 → Copying C v n p d C v 0
@@ -74,7 +74,7 @@ copy-step {C₀} {C} {v} {ahead} {x} {rest} {n} {p} {d} {q} h g hd tl = record {
 pub copy-next : {C₀ C C′ : List ℕ} {v ahead x rest : Val} {n p d q : ℕ} → q < n → Copying C₀ v n p d C ahead q → Headed C ahead x → Tailed C ahead rest → C′ ≡ cellPut C (p + q) x (linkOver (p + q) d) → Copying C₀ v n p d C′ rest (q + 1)
 copy-next h g hd tl e = rw e (copy-step h g hd tl)
 
-pub copy-end : {C₀ C : List ℕ} {v ahead : Val} {n p d q : ℕ} → n ≤ q → Copying C₀ v n p d C ahead q → Copied C₀ v n p d ahead C
+pub copy-end : {C₀ C : List ℕ} {v ahead : Val} {n p d q : ℕ} → n ≤ q → Copying C₀ v n p d C ahead q → CopiedLine C₀ v n p d ahead C
 copy-end {n = n} {q = q} h g =
     let e : q ≡ n = omega (arith, g .most) in
     record { means = λ xs l s rv. rw e at (g .means xs l s rv) }

@@ -9,8 +9,8 @@ use Rattle.language.specs.declared.Val.{Val}
 use Rattle.cells.specs.Cells.{Rep, sequenceVal, cellPut}
 use Rattle.cells.specs.Parts.{dropObjs, Sized, Headed}
 use Rattle.cells.proofs.Reps.{same-refl, same-trans, rep-ext, cell-same, rep-new}
-use Rattle.sequences.specs.Making.{Space, Stands, takeObjs, Prepended}
-use Rattle.sequences.specs.Lines.{Copied}
+use Rattle.sequences.specs.Making.{Space, NewSequence, takeObjs, Prepended}
+use Rattle.sequences.specs.Lines.{CopiedLine}
 use Rattle.cells.proofs.Lengths.{rep-length}
 use Rattle.cells.proofs.Places.{drop-first}
 use Rattle.sequences.proofs.Parts.{append-more, length-append, take-length, take-next}
@@ -28,10 +28,10 @@ pub prepend-long : {C C′ : List ℕ} {n p m : ℕ} {v rest r : Val} → Sized 
 prepend-long {C} {p = p} z h = record { means = λ xs ys l e rv rr. absurd (omega (arith, e .far, rep-length ys rr, z .means C p ys (omega (arith, e .far)) rr)) }
 
 -- all places but the last are in the line, the last is put behind them
-prepend-as : {C C₁ : List ℕ} {p m l : ℕ} {v rest behind x : Val} (q : ℕ) → Sized rest m → Copied C v q p 1 behind C₁ → length C₁ ≡ length C → Headed C₁ behind x → l ≡ rest .word % 4294967296 → Prepended C v (suc q) p rest (sequenceVal (p + 1) (suc q + m)) (cellPut C₁ (p + q) x l)
+prepend-as : {C C₁ : List ℕ} {p m l : ℕ} {v rest behind x : Val} (q : ℕ) → Sized rest m → CopiedLine C v q p 1 behind C₁ → length C₁ ≡ length C → Headed C₁ behind x → l ≡ rest .word % 4294967296 → Prepended C v (suc q) p rest (sequenceVal (p + 1) (suc q + m)) (cellPut C₁ (p + q) x l)
 prepend-as {C} {C₁} {p} {m} {l} {v} {rest} {behind} {x} q z cp e hd f = record { means = go }
   where
-    go : (xs ys : Objs) → suc q ≤ lengthOf xs → Space C p (suc q) → Rep C p v (seq xs) → Rep C p rest (seq ys) → Stands C p (suc q) (takeObjs (suc q) xs +++ ys) (sequenceVal (p + 1) (suc q + m)) (cellPut C₁ (p + q) x l)
+    go : (xs ys : Objs) → suc q ≤ lengthOf xs → Space C p (suc q) → Rep C p v (seq xs) → Rep C p rest (seq ys) → NewSequence C p (suc q) (takeObjs (suc q) xs +++ ys) (sequenceVal (p + 1) (suc q + m)) (cellPut C₁ (p + q) x l)
     go xs ys h sp rv rr =
         let u : p < 4294967296 = omega (arith, sp .far) in
         let k = cp .means xs (omega arith) (record { far = omega (arith, sp .far); long = omega (arith, sp .long) }) rv in
@@ -49,7 +49,7 @@ prepend-as {C} {C₁} {p} {m} {l} {v} {rest} {behind} {x} q z cp e hd f = record
           same = same-trans (omega arith) (k .same) s;
         }
 
-pub prepend-is : {C C₁ C₂ : List ℕ} {n p m l : ℕ} {v rest behind x r : Val} → (n ≡ 0 → ⊥) → Sized rest m → Copied C v (n - 1) p 1 behind C₁ → length C₁ ≡ length C → Headed C₁ behind x → l ≡ rest .word % 4294967296 → C₂ ≡ cellPut C₁ (p + (n - 1)) x l → r ≡ sequenceVal (p + 1) (n + m) → Prepended C v n p rest r C₂
+pub prepend-is : {C C₁ C₂ : List ℕ} {n p m l : ℕ} {v rest behind x r : Val} → (n ≡ 0 → ⊥) → Sized rest m → CopiedLine C v (n - 1) p 1 behind C₁ → length C₁ ≡ length C → Headed C₁ behind x → l ≡ rest .word % 4294967296 → C₂ ≡ cellPut C₁ (p + (n - 1)) x l → r ≡ sequenceVal (p + 1) (n + m) → Prepended C v n p rest r C₂
 prepend-is {n = zero} h z cp e hd f g i = absurd (h refl)
 prepend-is {n = suc q} h z cp e hd f g i =
     let k : suc q - 1 ≡ q = omega arith in

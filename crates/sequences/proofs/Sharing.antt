@@ -10,7 +10,7 @@ use Rattle.language.specs.declared.Val.{Val}
 use Rattle.cells.specs.Cells.{Rep, Same, sequenceVal, cellPut}
 use Rattle.cells.specs.Parts.{Headed, Tailed, Paired}
 use Rattle.cells.proofs.Reps.{same-refl, same-fewer, same-trans, rep-ext, cell-same}
-use Rattle.sequences.specs.Making.{Space, Stands, side, sides, Joined, Shared}
+use Rattle.sequences.specs.Making.{Space, NewSequence, side, sides, Joined, Shared}
 use Rattle.sequences.specs.Lines.{Place, Coupled}
 use Rattle.cells.proofs.Lengths.{rep-length}
 use Rattle.sequences.proofs.Segments.{place-ext, place-new, Begun, begin, begun-next, begun-end}
@@ -59,7 +59,7 @@ pub share-none : {C : List ℕ} {a v : Val} {first : Bool} {n p : ℕ} → n ≡
 unfolding sides
 share-none {C} {a} {v} {first} {n} {p} z = record { means = λ x ys e s ra rv. go x ys (e ∙ z) rv }
   where
-    go : (x : Obj) (ys : Objs) → lengthOf ys ≡ 0 → Rep C p v (seq ys) → Stands C p (3 * n) (sides first x ys) v C
+    go : (x : Obj) (ys : Objs) → lengthOf ys ≡ 0 → Rep C p v (seq ys) → NewSequence C p (3 * n) (sides first x ys) v C
     go x nil e rv = record { rep = rep-ext (same-refl C p) (omega arith) rv; same = same-refl C p }
     go x (y :: ys) e rv = absurd (omega arith)
 
@@ -118,7 +118,7 @@ share-next {left = left} h g hd tl cp e = share-step (left - 1) (omega arith) (o
 pub share-end : {C₀ C C′ : List ℕ} {a v ahead b r : Val} {first : Bool} {n p left free : ℕ} → left ≤ 1 → Sharing C₀ a v first n p C ahead left free → Headed C ahead b → Coupled C free a b first 0 C′ → r ≡ sequenceVal (p + 3) n → Shared C₀ a v first n p r C′
 share-end {C₀} {C} {C′} {a} {v} {ahead} {b} {r} {first} {n} {p} {left} {free} h g hd cp f = record { means = go }
   where
-    go : (x : Obj) (ys : Objs) → lengthOf ys ≡ n → Space C₀ p (3 * n) → Rep C₀ p a x → Rep C₀ p v (seq ys) → Stands C₀ p (3 * n) (sides first x ys) r C′
+    go : (x : Obj) (ys : Objs) → lengthOf ys ≡ n → Space C₀ p (3 * n) → Rep C₀ p a x → Rep C₀ p v (seq ys) → NewSequence C₀ p (3 * n) (sides first x ys) r C′
     go x ys e sp ra rv =
         let m = g .means x ys e sp ra rv in
         let one : lengthOf (m .todo) ≡ 1 = omega (arith, m .long, g .some) in

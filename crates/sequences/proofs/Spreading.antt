@@ -13,7 +13,7 @@ use Rattle.cells.specs.Parts.{Headed, Tailed}
 use Rattle.cells.proofs.Reps.{same-refl, same-fewer, same-trans, rep-ext}
 use Rattle.language.specs.Meanings.{isRow, areRows, entryAt, columnAt}
 use Rattle.sequences.specs.Making.{Space}
-use Rattle.sequences.specs.Lines.{linkOver, Place, Copied, sequenceFrom, Spreads, Spread}
+use Rattle.sequences.specs.Lines.{linkOver, Place, CopiedLine, sequenceFrom, Spreads, Spread}
 use Rattle.sequences.proofs.Segments.{place-ext, Begun, begin, begun-next, begun-end}
 use Rattle.sequences.proofs.Transposing.{and-first, and-second, row-is}
 
@@ -23,7 +23,7 @@ record RowLaid (C : List ℕ) (w d free : ℕ) (x : Obj) (C′ : List ℕ) : Typ
   place : (j : ℕ) → j < w → Place C′ free (free + j) (entryAt j x) (linkOver (free + j) d)
   same : Same C C′ free
 
-row-laid : {C C′ : List ℕ} {row o : Val} {w d free : ℕ} {x : Obj} → isRow w x ≡ true → Space C free (w + d) → Rep C free row x → Copied C row w free d o C′ → RowLaid C w d free x C′
+row-laid : {C C′ : List ℕ} {row o : Val} {w d free : ℕ} {x : Obj} → isRow w x ≡ true → Space C free (w + d) → Rep C free row x → CopiedLine C row w free d o C′ → RowLaid C w d free x C′
 row-laid {C} {C′} {row} {o} {w} {d} {free} {x} h sp r cp =
     let a = row-is w x h in
     let z : Rep C free row (seq (a .places)) = rw (a .is) at r in
@@ -73,7 +73,7 @@ spread-start {C} {p = p} z = record {
 }
 
 -- ---- one row more
-spread-now : {C₀ C C′ : List ℕ} {ahead row rest o : Val} {n w p free f : ℕ} (rs : Objs) (i : ℕ) (todo : Objs) → lengthOf todo ≡ suc (suc i) → areRows w todo ≡ true → p ≤ free → free + w * suc (suc i) ≡ p + w * n → length C ≡ length C₀ → Space C₀ p (w + w * n) → Headed C ahead row → Tailed C ahead rest → Copied C row w free w o C′ → f ≡ (free + w) % 4294967296 → Rep C p ahead (seq todo) → Same C₀ C p → ((j : ℕ) → j < w → Begun C free (p + j + 1) (columnAt j rs) (columnAt j todo) (free + j + 1)) → SpreadNow C₀ n w p rs C′ rest (suc i) f
+spread-now : {C₀ C C′ : List ℕ} {ahead row rest o : Val} {n w p free f : ℕ} (rs : Objs) (i : ℕ) (todo : Objs) → lengthOf todo ≡ suc (suc i) → areRows w todo ≡ true → p ≤ free → free + w * suc (suc i) ≡ p + w * n → length C ≡ length C₀ → Space C₀ p (w + w * n) → Headed C ahead row → Tailed C ahead rest → CopiedLine C row w free w o C′ → f ≡ (free + w) % 4294967296 → Rep C p ahead (seq todo) → Same C₀ C p → ((j : ℕ) → j < w → Begun C free (p + j + 1) (columnAt j rs) (columnAt j todo) (free + j + 1)) → SpreadNow C₀ n w p rs C′ rest (suc i) f
 unfolding areRows columnAt
 spread-now rs i nil e a l k z sp hd tl cp y rt s bg = absurd (omega arith)
 spread-now {C₀} {C} {C′} {w = w} {p = p} {free = free} {f = f} rs i (x :: todo) e a l k z sp hd tl cp y rt s bg =
@@ -97,14 +97,14 @@ spread-now {C₀} {C} {C′} {w = w} {p = p} {free = free} {f = f} rs i (x :: to
           rw q (rw (d, q) at (laid-next j h g (bg j h)));
     }
 
-spread-step : {C₀ C C′ : List ℕ} {v ahead row rest o : Val} {n w p left free f : ℕ} (i : ℕ) → left ≡ suc (suc i) → Spreading C₀ v n w p C ahead left free → Headed C ahead row → Tailed C ahead rest → Copied C row w free w o C′ → length C′ ≡ length C → f ≡ (free + w) % 4294967296 → Spreading C₀ v n w p C′ rest (suc i) f
+spread-step : {C₀ C C′ : List ℕ} {v ahead row rest o : Val} {n w p left free f : ℕ} (i : ℕ) → left ≡ suc (suc i) → Spreading C₀ v n w p C ahead left free → Headed C ahead row → Tailed C ahead rest → CopiedLine C row w free w o C′ → length C′ ≡ length C → f ≡ (free + w) % 4294967296 → Spreading C₀ v n w p C′ rest (suc i) f
 spread-step {w = w} i z g hd tl cp e y = record {
   some = omega arith;
   len = e ∙ g .len;
   means = λ rs k a sp rv. let m = g .means rs k a sp rv in spread-now rs i (m .todo) (m .long ∙ z) (m .rows) (m .low) (rw z at (m .sum)) (g .len) sp hd tl cp y (m .still) (m .same) (m .begun);
 }
 
-pub spread-next : {C₀ C C′ : List ℕ} {v ahead row rest o : Val} {n w p left free f : ℕ} → 1 < left → Spreading C₀ v n w p C ahead left free → Headed C ahead row → Tailed C ahead rest → Copied C row w free w o C′ → length C′ ≡ length C → f ≡ (free + w) % 4294967296 → Spreading C₀ v n w p C′ rest (left - 1) f
+pub spread-next : {C₀ C C′ : List ℕ} {v ahead row rest o : Val} {n w p left free f : ℕ} → 1 < left → Spreading C₀ v n w p C ahead left free → Headed C ahead row → Tailed C ahead rest → CopiedLine C row w free w o C′ → length C′ ≡ length C → f ≡ (free + w) % 4294967296 → Spreading C₀ v n w p C′ rest (left - 1) f
 spread-next {left = left} h g hd tl cp e y =
     let z : left - 1 ≡ suc (left - 2) = omega arith in
     rw z (spread-step (left - 2) (omega arith) g hd tl cp e y)
@@ -120,7 +120,7 @@ unfolding sequenceFrom
 from-is p zero h u = absurd (omega arith)
 from-is p (suc n) h u = let e : (p + 1) % 4294967296 ≡ p + 1 = omega arith in rw e
 
-spread-last : {C₀ C C′ : List ℕ} {ahead row o : Val} {n w p free f : ℕ} (rs todo : Objs) → lengthOf todo ≡ 1 → lengthOf rs ≡ n → 0 < n → areRows w todo ≡ true → p ≤ free → free + w ≡ p + w * n → length C ≡ length C₀ → Space C₀ p (w + w * n) → Headed C ahead row → Copied C row w free 0 o C′ → f ≡ (free + w) % 4294967296 → Rep C p ahead (seq todo) → Same C₀ C p → ((j : ℕ) → j < w → Begun C free (p + j + 1) (columnAt j rs) (columnAt j todo) (free + j + 1)) → Spreads C₀ n w p rs f C′
+spread-last : {C₀ C C′ : List ℕ} {ahead row o : Val} {n w p free f : ℕ} (rs todo : Objs) → lengthOf todo ≡ 1 → lengthOf rs ≡ n → 0 < n → areRows w todo ≡ true → p ≤ free → free + w ≡ p + w * n → length C ≡ length C₀ → Space C₀ p (w + w * n) → Headed C ahead row → CopiedLine C row w free 0 o C′ → f ≡ (free + w) % 4294967296 → Rep C p ahead (seq todo) → Same C₀ C p → ((j : ℕ) → j < w → Begun C free (p + j + 1) (columnAt j rs) (columnAt j todo) (free + j + 1)) → Spreads C₀ n w p rs f C′
 unfolding areRows columnAt linkOver
 spread-last rs nil e m i a l k z sp hd cp y rt s bg = absurd (omega arith)
 spread-last rs (x :: r :: todo) e m i a l k z sp hd cp y rt s bg = absurd (omega arith)
@@ -137,7 +137,7 @@ spread-last {C = C} {C′ = C′} {n = n} {w = w} {p = p} {free = free} {f = f} 
       same = same-trans l s (g .same);
     }
 
-pub spread-end : {C₀ C C′ : List ℕ} {v ahead row o : Val} {n w p left free f : ℕ} → (n ≡ 0 → ⊥) → left ≤ 1 → Spreading C₀ v n w p C ahead left free → Headed C ahead row → Copied C row w free 0 o C′ → f ≡ (free + w) % 4294967296 → Spread C₀ v n w p f C′
+pub spread-end : {C₀ C C′ : List ℕ} {v ahead row o : Val} {n w p left free f : ℕ} → (n ≡ 0 → ⊥) → left ≤ 1 → Spreading C₀ v n w p C ahead left free → Headed C ahead row → CopiedLine C row w free 0 o C′ → f ≡ (free + w) % 4294967296 → Spread C₀ v n w p f C′
 spread-end {w = w} {left = left} h l g hd cp y =
     let z : left ≡ 1 = omega (arith, g .some) in
     record { means = λ rs k a sp rv. let m = g .means rs k a sp rv in spread-last rs (m .todo) (m .long ∙ z) k (omega (arith, h)) (m .rows) (m .low) (omega (arith, rw z at (m .sum), mul-suc w 0)) (g .len) sp hd cp y (m .still) (m .same) (m .begun) }

@@ -8,7 +8,7 @@ use Rattle.language.specs.declared.Val.{Val}
 use Rattle.cells.specs.Cells.{Rep, Same, valAt, nextAt, sequenceVal}
 use Rattle.cells.specs.Parts.{dropObjs}
 use Rattle.language.specs.Meanings.{areRows, columnAt}
-use Rattle.sequences.specs.Making.{Space, Stands, side}
+use Rattle.sequences.specs.Making.{Space, NewSequence, side}
 
 -- what leads to the cell d further on than p: its number and one; 0 where d is 0
 unfoldable pub linkOver : ℕ → ℕ → ℕ
@@ -30,7 +30,7 @@ pub record Copies (C : List ℕ) (p d : ℕ) (xs : Objs) (n : ℕ) (r : Val) (C�
   pub rest : Rep C′ p r (seq (dropObjs xs n))
   pub same : Same C C′ p
 
-pub record Copied (C : List ℕ) (v : Val) (n p d : ℕ) (r : Val) (C′ : List ℕ) : Type 0 where
+pub record CopiedLine (C : List ℕ) (v : Val) (n p d : ℕ) (r : Val) (C′ : List ℕ) : Type 0 where
   pub means : (xs : Objs) → n ≤ lengthOf xs → Space C p (n + d) → Rep C p v (seq xs) → Copies C p d xs n r C′
 
 -- the pair of a and b in the cells p and p + 1, and in cell p + 2 a place that holds it and leads to `next`
@@ -53,5 +53,5 @@ pub record Spread (C : List ℕ) (v : Val) (n w p r : ℕ) (C′ : List ℕ) : T
   pub means : (rs : Objs) → lengthOf rs ≡ n → areRows w rs ≡ true → Space C p (w + w * n) → Rep C p v (seq rs) → Spreads C n w p rs r C′
 
 -- the sequence of the w sequences that begin in the cells from `first` on
-pub record Listed (C : List ℕ) (first n w p : ℕ) (r : Val) (C′ : List ℕ) : Type 0 where
-  pub means : (xs : Objs) → lengthOf xs ≡ w → Space C p w → ((j : ℕ) → j < w → Rep C p (sequenceFrom (first + j) n) (nthObj xs j)) → Stands C p w xs r C′
+pub record ColumnsListed (C : List ℕ) (first n w p : ℕ) (r : Val) (C′ : List ℕ) : Type 0 where
+  pub means : (xs : Objs) → lengthOf xs ≡ w → Space C p w → ((j : ℕ) → j < w → Rep C p (sequenceFrom (first + j) n) (nthObj xs j)) → NewSequence C p w xs r C′

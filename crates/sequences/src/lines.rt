@@ -1,7 +1,7 @@
 // Places copied into cells that follow one another.
 ghost use mathlib.Core.Path.{_≡_};
 ghost use Rattle.cells.specs.Cells.{cellPut};
-ghost use Rattle.sequences.specs.Lines.{linkOver, Copied};
+ghost use Rattle.sequences.specs.Lines.{linkOver, CopiedLine};
 use language::Val;
 
 // What leads to the cell d further on than p; 0 where d is 0.
@@ -23,7 +23,7 @@ fn put_over(c: &mut [u32], p: u32, v: Val, d: u32)
 
 // The first n places of v in the cells from p on, each leading to the cell d further on. Answers what follows them in v.
 pub fn copied(c: &mut [u32], v: Val, n: u32, p: u32, d: u32) -> Val
-    ensures { λ r. ⌜ Copied (now (c .entry)) v n p d r (now (c .exit)) ⌝ }
+    ensures { λ r. ⌜ CopiedLine (now (c .entry)) v n p d r (now (c .exit)) ⌝ }
 {
     if 4294967295 - p < n {
         return v;

@@ -1,7 +1,7 @@
 // A place, or the first places of a sequence, put before a sequence.
 ghost use mathlib.Core.Path.{_≡_};
 ghost use Prim.Native.Nat.{_%_};
-ghost use Rattle.sequences.specs.Making.{Before, Prepended};
+ghost use Rattle.sequences.specs.Making.{PutBefore, Prepended};
 use super::lines;
 use language::Val;
 
@@ -14,7 +14,7 @@ fn link(v: Val) -> u32
 
 // The sequence of x and then the places of s, in cell p. No table has so many cells that the numbers could run over.
 pub fn put_before(c: &mut [u32], p: u32, x: Val, s: Val) -> Val
-    ensures { λ r. ⌜ Before (now (c .entry)) p x s r (now (c .exit)) ⌝ }
+    ensures { λ r. ⌜ PutBefore (now (c .entry)) p x s r (now (c .exit)) ⌝ }
 {
     let n = cells::size(s);
     if 4294967294 < p {

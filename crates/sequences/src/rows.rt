@@ -1,7 +1,7 @@
 // The columns of rows of equal length.
 ghost use mathlib.Core.Path.{_≡_};
 ghost use Prim.Native.Nat.{_+_, _%_};
-ghost use Rattle.sequences.specs.Lines.{sequenceFrom, Spread, Listed};
+ghost use Rattle.sequences.specs.Lines.{sequenceFrom, Spread, ColumnsListed};
 ghost use Rattle.sequences.specs.Making.{Rows, Columns};
 use super::lines;
 use super::places;
@@ -69,7 +69,7 @@ fn begun_at(first: u32, j: u32, n: u32) -> Val
 
 // The sequence of the w sequences of n places that begin in the cells from first on, in the cells from p on.
 fn listed(c: &mut [u32], first: u32, n: u32, w: u32, p: u32) -> Val
-    ensures { λ r. ⌜ Listed (now (c .entry)) first n w p r (now (c .exit)) ⌝ }
+    ensures { λ r. ⌜ ColumnsListed (now (c .entry)) first n w p r (now (c .exit)) ⌝ }
 {
     let mut s = cells::sequence(0, 0);
     if 4294967295 - p < w {

@@ -1,16 +1,9 @@
 -- Accepted programs: what they are, that they read back, and that a law's result is one.
-use Prim.Native.Nat.{ℕ, _≤_}
-use mathlib.Core.Path.{_≡_}
-use mathlib.Core.Option.{some}
 use native.Mathlib.Omega.{arith}
 use lib.ListN.{length}
-use Rattle.language.specs.Forms.{Prog}
 use Rattle.language.specs.Writing.{writeProgram}
-use Rattle.language.specs.Laws.{Law}
-use Rattle.language.specs.Uses.{applyLaw}
-use Rattle.language.specs.Accepted.{Accepted, WellFormed}
-use Rattle.theorems.specs.ReadBack.{AcceptedMeans, AcceptedReadBack, UsesReadBack, ReadProgram}
-use Rattle.theorems.specs.EachUse.{Smaller, UsesAccepted}
+use Rattle.theorems.specs.ReadBack.{AcceptedMeans, AcceptedReadBack, UsesReadBack}
+use Rattle.theorems.specs.EachUse.{UsesAccepted}
 use Rattle.theorems.proofs.ProgramsBack.{programs-read-back}
 use Rattle.theorems.proofs.ProgramsRead.{programs-read}
 use Rattle.theorems.proofs.EachUse.{each-use-shrinks}

@@ -9,7 +9,6 @@ use lib.Dec.{leb, ltb, eqb}
 use lib.ListN.{length, drop, length-append, length-drop}
 use lib.Seq.{drop-append-seam}
 use borrow.Author.Tests.{leb-true}
-use Rattle.language.specs.declared.Meter.{Meter}
 use Rattle.language.specs.declared.Answer.{Answer}
 use Rattle.language.specs.Objects.{Obj}
 use Rattle.language.specs.Forms.{Prog, formsOf}
@@ -20,8 +19,7 @@ use Rattle.language.specs.Evaluation.{noStep, noName, noCell, RunEnd, done, fel
 use Rattle.language.specs.Laws.{Law}
 use Rattle.language.specs.Uses.{applyLaw, lawNumbered, simplify}
 use Rattle.language.specs.Answers.{Lent, Outcome, bare, at, counting, untouched, unwritten, written, roomIn, scanned, ended, onRead, runCall, rewritten, used, usedLaw, withProgram, lawCall, simplifyCall}
-use Rattle.theorems.specs.ReadBack.{Refusal}
-use Rattle.theorems.specs.AnswerTable.{isOneOf, Table, runTable, lawTable, simplifyTable, withPlace, withText, ofProgram, withLength, touchNothing, SixNumbers, Buffers, FromTable, RunFromTable, LawFromTable, SimplifyFromTable}
+use Rattle.theorems.specs.AnswerTable.{isOneOf, Table, runTable, lawTable, simplifyTable, withPlace, withText, ofProgram, withLength, touchNothing, SixNumbers, FromTable, RunFromTable, LawFromTable, SimplifyFromTable}
 use Rattle.theorems.proofs.Outcomes as Outcomes
 use Rattle.theorems.proofs.Outcomes.{no-meets, meets-then, meets-cond}
 use Rattle.theorems.proofs.Refusals.{objects-refused, programs-refused, definitions-within, Reads as Within}

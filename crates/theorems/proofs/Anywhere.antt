@@ -1,9 +1,9 @@
 -- A relation between forms that holds where a law is used at its own form, and passes to the forms around, holds for every
 -- use at every place of every program.
 use Prim.Native.Nat.{ℕ, zero, suc, _-_, _≤_}
-use mathlib.Core.Path.{_≡_, refl, sym, subst, ap}
+use mathlib.Core.Path.{_≡_, refl, sym, subst}
 use mathlib.Core.Bool.{Bool, true, false}
-use mathlib.Core.List.{List, [], _∷_}
+use mathlib.Core.List.{[], _∷_}
 use mathlib.Core.Option.{Option, some, none}
 use lib.Dec.{ltb, leb}
 use borrow.Author.Tests.{leb-true}
@@ -12,9 +12,9 @@ use Rattle.language.specs.Forms.{Form, word, name, chain, construct, constant, 
 use Rattle.language.specs.Numbers.{markLimit}
 use Rattle.language.specs.Writing.{marksOfProgram}
 use Rattle.groundwork.specs.Options.{onSome, when}
-use Rattle.language.specs.Laws.{onChain, put, leftmost, New, stays, puts, formOf, closed, inChain, whole, Law, atRoot}
+use Rattle.language.specs.Laws.{joinIn, leftmost, New, stays, puts, formOf, closed, inChain, whole, Law, atRoot}
 use Rattle.language.specs.Uses.{place, within, around, aroundAll, among, useAt, useAmong, withBody, useIn, applyLaw}
-use Rattle.theorems.proofs.Inversions.{some-inj, none-some, Made, chain-made, Something, something, when-true}
+use Rattle.theorems.proofs.Inversions.{some-inj, none-some, chain-made, something, when-true}
 
 -- ---- at the law's own form
 
@@ -49,7 +49,7 @@ module _ (F : Form → Form → Type 0) (C : Forms → Forms → Type 0) where
 -- F for forms, C for the parts of a chain in which one changes, S for the forms of a construction in which one does
 pub record Passes (F : Form → Form → Type 0) (C S : Forms → Forms → Type 0) : Type 0 where
   pub part : {f g : Form} (fs : Forms) → F f g → C (f & fs) (g & fs)
-  pub joined : {f g : Form} (fs : Forms) → F f g → C (f & fs) (put g fs)
+  pub joined : {f g : Form} (fs : Forms) → F f g → C (f & fs) (joinIn g fs)
   pub behind-part : (f : Form) {fs gs : Forms} → C fs gs → C (f & fs) (f & gs)
   pub in-chain : {fs gs : Forms} → C fs gs → F (chain fs) (chain gs)
   pub item : {f g : Form} (fs : Forms) → F f g → S (f & fs) (g & fs)

@@ -11,8 +11,8 @@ use Rattle.language.specs.Objects.{Obj, int, symbol, seq, Objs, nil, _::_, Trut
 use Rattle.language.specs.Forms.{Form, word, name, chain, construct, constant, insert, applyAll, bu, condition, while, Forms, stop, _&_, Prog}
 use Rattle.language.specs.Numbers.{Edition}
 use Rattle.language.specs.Meanings.{pair}
-use Rattle.language.specs.Charging.{takeStep, takeCells, withNames}
-use Rattle.language.specs.Evaluation.{noStep, noName, noCell, Out, value, bottom as fallen, spent, bind, askStep, askCells, close, askName, lookup, Apply, chainBy, constructBy, eachBy, insertBy, whileBy, insertOn, applyAllOn, inside, apply, decide, gathered}
+use Rattle.language.specs.Charging.{takeStep, withNames}
+use Rattle.language.specs.Evaluation.{noStep, noCell, Out, value, spent, bind, askStep, askCells, close, askName, lookup, Apply, chainBy, constructBy, eachBy, insertBy, whileBy, insertOn, applyAllOn, inside, apply, decide, gathered}
 use Rattle.theorems.proofs.Ends.{Job, just}
 use Rattle.theorems.proofs.Complete.{just-pos}
 use Rattle.theorems.proofs.Sound.{Explains, ex-object, ex-bottom, ex-out, Good, parts-sound, fold-sound}

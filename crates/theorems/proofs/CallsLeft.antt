@@ -3,7 +3,7 @@ use Prim.Native.Nat.{ℕ, zero, suc}
 use mathlib.Core.Path.{_≡_, refl, ap, _∙_}
 use mathlib.Core.List.{List}
 use Rattle.language.specs.Reading.{readObj, readForm, definitionAt, readDefinitions}
-use Rattle.theorems.specs.CallsLeft.{Readers, readers, readersBy, readersFrom, SameReaders}
+use Rattle.theorems.specs.CallsLeft.{readers, readersBy, SameReaders}
 
 one-more : (k : ℕ) (s : List ℕ) → readersBy s (readers k s) ≡ readers (suc k) s
 unfolding readObj readForm definitionAt readDefinitions

@@ -2,7 +2,7 @@
 use Prim.Native.Nat.{ℕ, _*_, _≤_}
 use mathlib.Core.Path.{_≡_, refl, sym, subst, ap, _∙_}
 use mathlib.Core.Bool.{Bool, true, false, cond, _&&_, _||_, not}
-use mathlib.Core.List.{List, [], _∷_, _++_}
+use mathlib.Core.List.{List}
 use mathlib.Core.Option.{Option, some, none}
 use native.Mathlib.Omega.{arith}
 use lib.Dec.{leb, ltb, eqb}
@@ -10,20 +10,17 @@ use lib.ListN.{length, take, drop}
 use lib.Seq.{take-append-seam}
 use borrow.Author.Tests.{ltb-false, le-ltb}
 use Rattle.language.specs.declared.Meter.{Meter}
-use Rattle.language.specs.declared.Answer.{Answer}
 use Rattle.language.specs.Objects.{Obj}
 use Rattle.language.specs.Forms.{Prog}
 use Rattle.language.specs.Reading.{Got, got, no, readObject, readProgram}
 use Rattle.language.specs.Writing.{writeObj, writeProgram, Scan, on, short, deep, scan}
 use Rattle.language.specs.Numbers.{one}
-use Rattle.language.specs.Evaluation.{Spent, noStep, noName, noCell, RunEnd, done, fell, ranOut, tooFew, run}
+use Rattle.language.specs.Evaluation.{noStep, noName, noCell, RunEnd, done, fell, ranOut, tooFew, run}
 use Rattle.language.specs.Laws.{Law}
 use Rattle.language.specs.Uses.{applyLaw, lawNumbered}
-use Rattle.language.specs.Answers.{Lent, Outcome, bare, at, counting, untouched, unwritten, written, roomIn, scanned, spentNumber, ended, onRead, runCall, rewritten, used, usedLaw, withProgram, lawCall}
-use Rattle.theorems.specs.Demand3.{Result, object, reaches, Uses, noUse, useThen, NoMore, Somehow, LawCalls, noCall, callThen, Reached, wrote, fellOut, tooLong, tooDeep, SameButLess, Demand3OnTexts, Runs, RunsSomehow, Demand3OnTextsBack}
+use Rattle.language.specs.Answers.{Lent, Outcome, counting, untouched, unwritten, written, roomIn, scanned, ended, onRead, runCall, used, usedLaw, lawCall}
+use Rattle.theorems.specs.Demand3.{Result, object, reaches, Uses, noUse, useThen, LawCalls, noCall, callThen, Reached, wrote, fellOut, tooLong, tooDeep, SameButLess, Demand3OnTexts, Demand3OnTextsBack}
 use Rattle.theorems.specs.Demand3.{bottom as bottomResult}
-use Rattle.theorems.specs.ReadBack.{ReadProgram}
-use Rattle.theorems.specs.EachUse.{Smaller}
 use Rattle.theorems.proofs.ProgramsBack.{programs-read-back}
 use Rattle.theorems.proofs.ProgramsRead.{programs-read}
 use Rattle.theorems.proofs.EachUse.{each-use-shrinks}

@@ -8,7 +8,7 @@ use lib.ListN.{length}
 use native.Mathlib.Omega.{arith}
 use Rattle.language.specs.Objects.{Obj}
 use Rattle.language.specs.Forms.{Form, chain, construct, insert, applyAll, bu, condition, while, Forms, stop, _&_, formsInAll, constantCellsAll, Prog, formsOf, programCells}
-use Rattle.language.specs.Laws.{put, New, formOf, Law}
+use Rattle.language.specs.Laws.{joinIn, New, formOf, Law}
 use Rattle.language.specs.Uses.{useAt}
 use Rattle.language.specs.Accepted.{OneOrMore, AreForms, AreDefinitions, Different}
 use Rattle.theorems.specs.EachUse.{EachUse}
@@ -35,7 +35,7 @@ as-part f g fs r ok =
     let s = r (ok .0) in
     record { parts = omega arith; forms = omega arith; cells = omega arith; bytes = omega arith; areForms = (s .isForm, ok .1) }
 
-joined-in : (f g : Form) (fs : Forms) → Shrinks f g → PartsShrink 0 (f & fs) (put g fs)
+joined-in : (f g : Form) (fs : Forms) → Shrinks f g → PartsShrink 0 (f & fs) (joinIn g fs)
 joined-in f g fs r ok =
     let s = r (ok .0) in
     let j = has-put g fs (s .isForm) (ok .1) in

@@ -9,7 +9,7 @@ use Rattle.language.specs.Forms.{Form, word, name, chain, construct, constant, 
 use Rattle.language.specs.Numbers.{Edition}
 use Rattle.language.specs.Meanings.{meaning, pick}
 use Rattle.groundwork.specs.Options.{onSome, when}
-use Rattle.language.specs.Laws.{onChain, onConstruct, onConstant, onCondition, onSelector, onTwo, onTwoOrMore, whenSame, onSplit, onEndingIn, endingIn, put}
+use Rattle.language.specs.Laws.{onChain, onConstruct, onConstant, onCondition, onSelector, onTwo, onTwoOrMore, whenSame, onSplit, onEndingIn, endingIn, joinIn}
 
 pub some-inj : {A : Type 0} {a b : A} → some a ≡ some b → a ≡ b
 some-inj h = cc
@@ -188,7 +188,7 @@ pub data PutIn : Form → Forms → Forms → Type 0 where
   one-part : (g : Form) (fs : Forms) → PutIn g fs (g & fs)
   its-parts : (gs fs : Forms) → PutIn (chain gs) fs (gs +& fs)
 
-pub put-in : (g : Form) (fs : Forms) → PutIn g fs (put g fs)
+pub put-in : (g : Form) (fs : Forms) → PutIn g fs (joinIn g fs)
 put-in (word w) fs = one-part _ fs
 put-in (name w) fs = one-part _ fs
 put-in (chain gs) fs = its-parts gs fs

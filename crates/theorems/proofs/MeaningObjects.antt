@@ -10,7 +10,7 @@ use Rattle.language.specs.Objects.{Obj, int, symbol, seq, Objs, nil, _::_, leng
 use Rattle.language.specs.Words.{Op}
 use Rattle.language.specs.Forms.{Word, select, selectRight, op}
 use Rattle.language.specs.Numbers.{Edition, one, inRange}
-use Rattle.language.specs.Meanings.{WordAnswer, falls, gives, made, number, quotient, divided, onSeq, onFull, onPair, onInt, onTruth, nth, pick, fromLeft, fromRight, turnedOnto, dropLast, lastOf, toLeft, toRight, withLeft, withRight, areRows, entryAt, columnAt, columnsAt, transposed, widthOf, isAtom, isNull, Looked, look, meaning}
+use Rattle.language.specs.Meanings.{WordAnswer, falls, gives, number, quotient, divided, onSeq, onFull, onPair, onInt, onTruth, nth, pick, fromLeft, fromRight, turnedOnto, dropLast, lastOf, toLeft, toRight, withLeft, withRight, areRows, entryAt, columnAt, columnsAt, transposed, widthOf, isAtom, isNull, look, meaning}
 use Rattle.language.specs.Accepted.{IsInteger, IsObj, AreObjs}
 
 -- what a word gives is such an object

@@ -9,7 +9,7 @@ use Rattle.language.specs.Words.{Op}
 use Rattle.language.specs.Forms.{Word, op, Form, word, chain, construct, constant, bu, condition, Forms, stop, _&_, Prog, _+&_, count, formsIn, formsInAll, formsOf, constantCells, constantCellsAll, programCells}
 use Rattle.language.specs.Numbers.{Edition}
 use Rattle.language.specs.Meanings.{meaning, pick}
-use Rattle.language.specs.Laws.{harmless, allHarmless, put, fit1, fit2, fit5, chosen, fit6, fit7, fit8, fit10, endingIn, rewrite3, rewrite4, rewrite9, rewrite11, New, formOf, closed, Law, law1, law2, law3, law4, law5, law6, law7, law8, law9, law10, law11, atRoot}
+use Rattle.language.specs.Laws.{harmless, allHarmless, joinIn, fit1, fit2, fit5, chosen, fit6, fit7, fit8, fit10, endingIn, rewrite3, rewrite4, rewrite9, rewrite11, New, formOf, closed, Law, law1, law2, law3, law4, law5, law6, law7, law8, law9, law10, law11, atRoot}
 use Rattle.language.specs.Uses.{applyLaw}
 use Rattle.theorems.proofs.Inversions.{some-inj, none-some, chain-made, construct-made, constant-made, condition-made, selector-made, two, two-or-more, something, when-true, when-same, split, ends-in, Ending, none-more, one-more, ending, PutIn, one-part, its-parts, put-in}
 use Rattle.theorems.proofs.FormCounts.{formsInAll-append, constantCellsAll-append, form-counted}
@@ -45,7 +45,7 @@ has-put : {f : Form} {fs gs : Forms} → PutIn f fs gs → Put f fs gs
 has-put (one-part f fs) = record { imp = λ e Q x. imp-refl e Q _; cells = omega arith; fewer = omega arith }
 has-put (its-parts gs fs) = record { imp = λ e Q. root2 e Q gs fs; cells = omega (arith, constantCellsAll-append gs fs); fewer = omega (arith, formsInAll-append gs fs) }
 
-put-ref : (f : Form) (fs : Forms) → Put f fs (put f fs)
+put-ref : (f : Form) (fs : Forms) → Put f fs (joinIn f fs)
 put-ref f fs = has-put (put-in f fs)
 
 -- ---- the laws among a chain's parts
@@ -69,7 +69,7 @@ fits2 (f & fs) gs h =
       fewer = omega (arith, formsInAll-append (M .of) fs);
     })
 
-ref5 : (f g : Form) (x : Obj) (fs : Forms) → RefP (f & construct (constant x & g & stop) & fs) (bu f x & put g fs)
+ref5 : (f g : Form) (x : Obj) (fs : Forms) → RefP (f & construct (constant x & g & stop) & fs) (bu f x & joinIn g fs)
 ref5 f g x fs =
     let U = put-ref g fs in
     record {
@@ -108,7 +108,7 @@ picked : (w : Word) (before : ℕ → Option ℕ) (gs : Forms) (j : ℕ) → ((e
     → before (count gs) ≡ some j → (e : Edition) (Q : Prog) → Picks e Q w gs j
 picked w before gs j a h e Q vs l = a e vs ∙ ap (λ (k : ℕ). pick (before k) vs) l ∙ ap (λ (o : Option ℕ). pick o vs) h
 
-ref6 : (w : Word) (gs fs : Forms) (j : ℕ) (g : Form) → ((e : Edition) (Q : Prog) → Picks e Q w gs j) → Chose j gs g → RefP (word w & construct gs & fs) (put g fs)
+ref6 : (w : Word) (gs fs : Forms) (j : ℕ) (g : Form) → ((e : Edition) (Q : Prog) → Picks e Q w gs j) → Chose j gs g → RefP (word w & construct gs & fs) (joinIn g fs)
 ref6 w gs fs j g picks C =
     let U = put-ref g fs in
     record {
@@ -171,7 +171,7 @@ ending-forms : {h : Form} {fs bs : Forms} → Ending h fs bs → formsInAll bs �
 ending-forms none-more = omega arith
 ending-forms (one-more a F) = omega (arith, ending-forms F)
 
-ref3 : (h : Form) {f g : Form} {fs bs : Forms} → Ending h (f & g & fs) bs → RefF (construct (f & g & fs)) (chain (construct bs & put h stop))
+ref3 : (h : Form) {f g : Form} {fs bs : Forms} → Ending h (f & g & fs) bs → RefF (construct (f & g & fs)) (chain (construct bs & joinIn h stop))
 ref3 h {bs = bs} (one-more a (one-more b F)) =
     let U = put-ref h stop in
     record {
@@ -190,7 +190,7 @@ rewrites3 c c′ u =
     let q : c ≡ construct (T .f & T .g & T .rest) = cc in
     subst₂ RefF (sym q) (some-inj (G .gives)) (ref3 (S .h) F)
 
-ref4 : (p f g h : Form) → RefF (condition (chain (p & h & stop)) (chain (f & h & stop)) (chain (g & h & stop))) (chain (condition p f g & put h stop))
+ref4 : (p f g h : Form) → RefF (condition (chain (p & h & stop)) (chain (f & h & stop)) (chain (g & h & stop))) (chain (condition p f g & joinIn h stop))
 ref4 p f g h =
     let U = put-ref h stop in
     record {

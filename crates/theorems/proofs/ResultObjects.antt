@@ -12,7 +12,7 @@ use Rattle.language.specs.Forms.{Form, mainForm, Prog}
 use Rattle.language.specs.Numbers.{Edition}
 use Rattle.language.specs.Meanings.{WordAnswer}
 use Rattle.language.specs.Evaluation.{lookup, done, run}
-use Rattle.language.specs.Accepted.{IsObj, AreObjs, IsForm, AreForms, AreDefinitions, WellFormed}
+use Rattle.language.specs.Accepted.{IsObj, AreObjs, IsForm, AreForms, AreDefinitions}
 use Rattle.theorems.specs.Results.{ResultsAreObjects}
 use Rattle.theorems.proofs.MeaningObjects.{Given, given-is, word-given}
 use Rattle.theorems.proofs.Accepted.{accepted-means}

@@ -9,7 +9,7 @@ use Rattle.language.specs.Words.{Op}
 use Rattle.language.specs.Forms.{Form, word, chain, construct, constant, bu, condition, Forms, stop, _&_, op, _+&_, count, formsIn, formsInAll, constantCells}
 use Rattle.language.specs.Forms.{constantCellsAll}
 use Rattle.groundwork.specs.Options.{onSome, when}
-use Rattle.language.specs.Laws.{harmless, allHarmless, onConstruct, onConstant, onCondition, onSelector, onTwo, onTwoOrMore, whenSame, put, fit1, fit2, fit5, chosen, fit6, fit7, fit8}
+use Rattle.language.specs.Laws.{harmless, allHarmless, onConstruct, onConstant, onCondition, onSelector, onTwo, onTwoOrMore, whenSame, joinIn, fit1, fit2, fit5, chosen, fit6, fit7, fit8}
 use Rattle.language.specs.Laws.{fit10, onSplit, onEndingIn, endingIn, rewrite3, rewrite4, rewrite9, rewrite11, New, formOf, closed, inChain, Law, law1, law2, law3, law4, law5, law6, law7, law8, law9}
 use Rattle.language.specs.Laws.{law10, law11, atRoot}
 use Rattle.language.specs.Accepted.{OneOrMore, IsForm, AreForms}
@@ -82,7 +82,7 @@ has-put-in (its-parts (g & gs) fs) ok oks =
       areForms = areForms-append (g & gs) fs (ok .1) oks;
     }
 
-pub has-put : (g : Form) (fs : Forms) → IsForm g → AreForms fs → HasPut g fs (put g fs)
+pub has-put : (g : Form) (fs : Forms) → IsForm g → AreForms fs → HasPut g fs (joinIn g fs)
 has-put g fs ok oks = has-put-in (put-in g fs) ok oks
 
 -- ---- laws that take parts of a chain
@@ -118,7 +118,7 @@ fits2 (f & fs) gs u =
     law2-shrinks (M .of) fs (cc (M .is)) (M .gives)
 
 law5-shrinks : {ps qs : Forms} (f g : Form) (x : Obj) (rest : Forms) →
-    ps ≡ f & construct (constant x & g & stop) & rest → some (bu f x & put g rest) ≡ some qs → PartsShrink 1 ps qs
+    ps ≡ f & construct (constant x & g & stop) & rest → some (bu f x & joinIn g rest) ≡ some qs → PartsShrink 1 ps qs
 law5-shrinks f g x rest e u = of-shape e u λ ok.
     let okg = ok .1 .0 .1 .1 .0 in
     let j = has-put g rest okg (ok .1 .1) in
@@ -132,10 +132,10 @@ law5-shrinks f g x rest e u = of-shape e u λ ok.
 
 fits5 : (fs gs : Forms) → fit5 fs ≡ some gs → PartsShrink 1 fs gs
 fits5 fs gs u =
-    let T = two-or-more fs (λ f h rest. onConstruct h (λ hs. onTwo hs (λ c g. onConstant c (λ x. some (bu f x & put g rest))))) gs u in
-    let M = construct-made (T .g) (λ hs. onTwo hs (λ c g. onConstant c (λ x. some (bu (T .f) x & put g (T .rest))))) gs (T .gives) in
-    let D = two (M .of) (λ c g. onConstant c (λ x. some (bu (T .f) x & put g (T .rest)))) gs (M .gives) in
-    let X = constant-made (D .f) (λ x. some (bu (T .f) x & put (D .g) (T .rest))) gs (D .gives) in
+    let T = two-or-more fs (λ f h rest. onConstruct h (λ hs. onTwo hs (λ c g. onConstant c (λ x. some (bu f x & joinIn g rest))))) gs u in
+    let M = construct-made (T .g) (λ hs. onTwo hs (λ c g. onConstant c (λ x. some (bu (T .f) x & joinIn g (T .rest))))) gs (T .gives) in
+    let D = two (M .of) (λ c g. onConstant c (λ x. some (bu (T .f) x & joinIn g (T .rest)))) gs (M .gives) in
+    let X = constant-made (D .f) (λ x. some (bu (T .f) x & joinIn (D .g) (T .rest))) gs (D .gives) in
     law5-shrinks (T .f) (D .g) (X .of) (T .rest) (cc (T .is, M .is, D .is, X .is)) (X .gives)
 
 -- one of a construction's forms
@@ -159,7 +159,7 @@ commas stop = omega arith
 commas (g & gs) = omega arith
 
 law6-shrinks : {ps qs : Forms} (f g : Form) (gs rest : Forms) (j : ℕ) →
-    ps ≡ f & construct gs & rest → chosen j gs ≡ some g → some (put g rest) ≡ some qs → PartsShrink 1 ps qs
+    ps ≡ f & construct gs & rest → chosen j gs ≡ some g → some (joinIn g rest) ≡ some qs → PartsShrink 1 ps qs
 law6-shrinks f g gs rest i e v u = of-shape e u λ ok.
     let c = is-chosen i gs g v (ok .1 .0 .1) in
     let j = has-put g rest (c .isForm) (ok .1 .1) in
@@ -173,11 +173,11 @@ law6-shrinks f g gs rest i e v u = of-shape e u λ ok.
 
 fits6 : (fs gs : Forms) → fit6 fs ≡ some gs → PartsShrink 1 fs gs
 fits6 fs gs u =
-    let T = two-or-more fs (λ f h rest. onSelector f (λ before. onConstruct h (λ hs. onSome (before (count hs)) (λ j. onSome (chosen j hs) (λ g. some (put g rest)))))) gs u in
-    let S = selector-made (T .f) (λ before. onConstruct (T .g) (λ hs. onSome (before (count hs)) (λ j. onSome (chosen j hs) (λ g. some (put g (T .rest)))))) gs (T .gives) in
-    let M = construct-made (T .g) (λ hs. onSome (S .before (count hs)) (λ j. onSome (chosen j hs) (λ g. some (put g (T .rest))))) gs (S .gives) in
-    let J = something (S .before (count (M .of))) (λ j. onSome (chosen j (M .of)) (λ g. some (put g (T .rest)))) gs (M .gives) in
-    let G = something (chosen (J .of) (M .of)) (λ g. some (put g (T .rest))) gs (J .gives) in
+    let T = two-or-more fs (λ f h rest. onSelector f (λ before. onConstruct h (λ hs. onSome (before (count hs)) (λ j. onSome (chosen j hs) (λ g. some (joinIn g rest)))))) gs u in
+    let S = selector-made (T .f) (λ before. onConstruct (T .g) (λ hs. onSome (before (count hs)) (λ j. onSome (chosen j hs) (λ g. some (joinIn g (T .rest)))))) gs (T .gives) in
+    let M = construct-made (T .g) (λ hs. onSome (S .before (count hs)) (λ j. onSome (chosen j hs) (λ g. some (joinIn g (T .rest))))) gs (S .gives) in
+    let J = something (S .before (count (M .of))) (λ j. onSome (chosen j (M .of)) (λ g. some (joinIn g (T .rest)))) gs (M .gives) in
+    let G = something (chosen (J .of) (M .of)) (λ g. some (joinIn g (T .rest))) gs (J .gives) in
     law6-shrinks (T .f) (G .of) (M .of) (T .rest) (J .of) (cc (T .is, M .is)) (G .is) (G .gives)
 
 law7-shrinks : {ps qs : Forms} (f f1 f2 : Form) (more rest : Forms) →
@@ -253,12 +253,12 @@ one-or-more stop h = absurd (omega arith)
 one-or-more (f & fs) h = tt
 
 -- A chain of f and h: h is put behind f.
-then-put : (f h : Form) → IsForm f → IsForm h → IsForm (chain (f & put h stop))
+then-put : (f h : Form) → IsForm f → IsForm h → IsForm (chain (f & joinIn h stop))
 then-put f h okf okh =
     let j = has-put h stop okh tt in
-    (one-or-more (put h stop) (j .parts), (okf, j .areForms))
+    (one-or-more (joinIn h stop) (j .parts), (okf, j .areForms))
 
-end-taken-out : {h : Form} {cs fs : Forms} → Ending h cs fs → 2 ≤ count cs → Shrinks (construct cs) (chain (construct fs & put h stop))
+end-taken-out : {h : Form} {cs fs : Forms} → Ending h cs fs → 2 ≤ count cs → Shrinks (construct cs) (chain (construct fs & joinIn h stop))
 end-taken-out none-more many ok = absurd (ok .0)
 end-taken-out (one-more f none-more) many ok = absurd (omega arith)
 end-taken-out {h} (one-more f (one-more g {fs = more} e)) many ok =
@@ -276,20 +276,20 @@ end-taken-out {h} (one-more f (one-more g {fs = more} e)) many ok =
     }
 
 law3-shrinks : {c z : Form} (h : Form) (cs fs : Forms) → c ≡ construct cs → 2 ≤ count cs → endingIn h cs ≡ some fs →
-    some (chain (construct fs & put h stop)) ≡ some z → Shrinks c z
+    some (chain (construct fs & joinIn h stop)) ≡ some z → Shrinks c z
 law3-shrinks h cs fs e many v u = whole-shape e u (end-taken-out (ending h cs fs v) many)
 
 rewrites3 : (f g : Form) → rewrite3 f ≡ some g → Shrinks f g
 rewrites3 c g u =
-    let M = construct-made c (λ cs. onTwoOrMore cs (λ c1 c2 more. onSplit c1 (λ f1 h. onSome (endingIn h cs) (λ fs. some (chain (construct fs & put h stop)))))) g u in
-    let T = two-or-more (M .of) (λ c1 c2 more. onSplit c1 (λ f1 h. onSome (endingIn h (M .of)) (λ fs. some (chain (construct fs & put h stop))))) g (M .gives) in
-    let S = split (T .f) (λ f1 h. onSome (endingIn h (M .of)) (λ fs. some (chain (construct fs & put h stop)))) g (T .gives) in
-    let E = something (endingIn (S .h) (M .of)) (λ fs. some (chain (construct fs & put (S .h) stop))) g (S .gives) in
+    let M = construct-made c (λ cs. onTwoOrMore cs (λ c1 c2 more. onSplit c1 (λ f1 h. onSome (endingIn h cs) (λ fs. some (chain (construct fs & joinIn h stop)))))) g u in
+    let T = two-or-more (M .of) (λ c1 c2 more. onSplit c1 (λ f1 h. onSome (endingIn h (M .of)) (λ fs. some (chain (construct fs & joinIn h stop))))) g (M .gives) in
+    let S = split (T .f) (λ f1 h. onSome (endingIn h (M .of)) (λ fs. some (chain (construct fs & joinIn h stop)))) g (T .gives) in
+    let E = something (endingIn (S .h) (M .of)) (λ fs. some (chain (construct fs & joinIn (S .h) stop))) g (S .gives) in
     let many : 2 ≤ count (M .of) = subst (λ (cs : Forms). 2 ≤ count cs) (sym (T .is)) (omega arith) in
     law3-shrinks (S .h) (M .of) (E .of) (M .is) many (E .is) (E .gives)
 
 law4-shrinks : {c z : Form} (p f g h : Form) → c ≡ condition (chain (p & h & stop)) (chain (f & h & stop)) (chain (g & h & stop)) →
-    some (chain (condition p f g & put h stop)) ≡ some z → Shrinks c z
+    some (chain (condition p f g & joinIn h stop)) ≡ some z → Shrinks c z
 law4-shrinks p f g h e u = whole-shape e u λ ok.
     let okh = ok .0 .1 .1 .0 in
     let j = has-put h stop okh tt in
@@ -304,10 +304,10 @@ law4-shrinks p f g h e u = whole-shape e u λ ok.
 
 rewrites4 : (f g : Form) → rewrite4 f ≡ some g → Shrinks f g
 rewrites4 c z u =
-    let M = condition-made c (λ ph fh gh. onSplit ph (λ p h. onEndingIn h fh (λ f. onEndingIn h gh (λ g. some (chain (condition p f g & put h stop)))))) z u in
-    let S = split (M .p) (λ p h. onEndingIn h (M .f) (λ f. onEndingIn h (M .g) (λ g. some (chain (condition p f g & put h stop))))) z (M .gives) in
-    let E = ends-in (S .h) (M .f) (λ f. onEndingIn (S .h) (M .g) (λ g. some (chain (condition (S .f) f g & put (S .h) stop)))) z (S .gives) in
-    let D = ends-in (S .h) (M .g) (λ g. some (chain (condition (S .f) (E .f) g & put (S .h) stop))) z (E .gives) in
+    let M = condition-made c (λ ph fh gh. onSplit ph (λ p h. onEndingIn h fh (λ f. onEndingIn h gh (λ g. some (chain (condition p f g & joinIn h stop)))))) z u in
+    let S = split (M .p) (λ p h. onEndingIn h (M .f) (λ f. onEndingIn h (M .g) (λ g. some (chain (condition p f g & joinIn h stop))))) z (M .gives) in
+    let E = ends-in (S .h) (M .f) (λ f. onEndingIn (S .h) (M .g) (λ g. some (chain (condition (S .f) f g & joinIn (S .h) stop)))) z (S .gives) in
+    let D = ends-in (S .h) (M .g) (λ g. some (chain (condition (S .f) (E .f) g & joinIn (S .h) stop))) z (E .gives) in
     law4-shrinks (S .f) (E .f) (D .f) (S .h) (cc (M .is, S .is, E .is, D .is)) (D .gives)
 
 -- one of a condition's two forms

@@ -8,12 +8,12 @@ use mathlib.Core.Option.{Option, some, none}
 use native.Mathlib.Omega.{arith}
 use lib.Dec.{ltb, leb}
 use borrow.Author.Tests.{le-ltb, leb-true, leb-false}
-use Rattle.language.specs.Forms.{Form, word, name, chain, construct, constant, insert, applyAll, bu, condition, while, Forms, stop, _&_, Prog, formsIn, formsInAll, formsOf}
+use Rattle.language.specs.Forms.{Prog, formsIn, formsOf}
 use Rattle.language.specs.Numbers.{markLimit}
 use Rattle.language.specs.Writing.{marksOfProgram}
 use Rattle.groundwork.specs.Options.{onSome, when}
-use Rattle.language.specs.Laws.{New, formOf, Law, law1, law2, law3, law4, law5, law6, law7, law8, law9, law10, law11, atRoot}
-use Rattle.language.specs.Uses.{place, within, around, aroundAll, among, useAt, useAmong, withBody, useIn, applyLaw, laws, lowest, least, Simplified, simplifyBy, simplify}
+use Rattle.language.specs.Laws.{formOf, Law, law1, law2, law3, law4, law5, law6, law7, law8, law9, law10, law11}
+use Rattle.language.specs.Uses.{place, within, among, useAt, withBody, useIn, applyLaw, laws, lowest, least, Simplified, simplifyBy, simplify}
 use Rattle.theorems.specs.Demand3.{Uses, noUse, useThen}
 use Rattle.theorems.specs.Simplifier.{NoneAt, NoneOf, First, FirstUses, noneLeft, firstThen, Simplifies, SimplifierUses, NoneAfter}
 use Rattle.theorems.proofs.Inversions.{none-some}
@@ -21,42 +21,8 @@ use Rattle.theorems.proofs.Refines.{fewer}
 
 -- ---- no law applies at a place that no form has
 
-past : (here : Option New) (parts : ℕ → Option New) (i n : ℕ) → suc n ≤ i → ((j : ℕ) → n ≤ j → parts j ≡ none) → place i here parts ≡ none
-past here parts zero n h f = absurd (omega arith)
-past here parts (suc i) n h f = f i (omega arith)
-
 pass : {A : Type 0} (j n : ℕ) (first rest : ℕ → Option A) → n ≤ j → rest (j - n) ≡ none → within j n first rest ≡ none
 pass j n first rest h u = let t : ltb j n ≡ false = le-ltb j n h in rw (t, within) u
-
-mutual
-  beyond : (f : Form) (l : Law) (i : ℕ) → formsIn f ≤ i → useAt f l i ≡ none
-  beyond (word w) l i h = past (atRoot l (word w)) (λ j. none) i 0 h (λ j t. refl)
-  beyond (name w) l i h = past (atRoot l (name w)) (λ j. none) i 0 h (λ j t. refl)
-  beyond (constant x) l i h = past (atRoot l (constant x)) (λ j. none) i 0 h (λ j t. refl)
-  beyond (chain fs) l i h = past (atRoot l (chain fs)) (λ j. aroundAll chain (useAmong true fs l j)) i (formsInAll fs) h (λ j t. ap (aroundAll chain) (beyond-all true fs l j t))
-  beyond (construct fs) l i h =
-      past (atRoot l (construct fs)) (λ j. aroundAll construct (useAmong false fs l j)) i (formsInAll fs) h (λ j t. ap (aroundAll construct) (beyond-all false fs l j t))
-  beyond (insert f) l i h = past (atRoot l (insert f)) (λ j. around insert (useAt f l j)) i (formsIn f) h (λ j t. ap (around insert) (beyond f l j t))
-  beyond (applyAll f) l i h = past (atRoot l (applyAll f)) (λ j. around applyAll (useAt f l j)) i (formsIn f) h (λ j t. ap (around applyAll) (beyond f l j t))
-  beyond (bu f x) l i h = past (atRoot l (bu f x)) (λ j. around (λ g. bu g x) (useAt f l j)) i (formsIn f) h (λ j t. ap (around (λ g. bu g x)) (beyond f l j t))
-  beyond (condition p f g) l i h =
-      let test : ℕ → Option New = λ j. around (λ q. condition q f g) (useAt p l j) in
-      let then : ℕ → Option New = λ j. around (λ h. condition p h g) (useAt f l j) in
-      let else : ℕ → Option New = λ j. around (λ h. condition p f h) (useAt g l j) in
-      past (atRoot l (condition p f g)) (λ j. within j (formsIn p) test (λ j. within j (formsIn f) then else)) i (formsIn p + (formsIn f + formsIn g)) h (λ j t.
-      pass j (formsIn p) test (λ j. within j (formsIn f) then else) (omega arith)
-      (pass (j - formsIn p) (formsIn f) then else (omega arith) (ap (around (λ h. condition p f h)) (beyond g l (j - formsIn p - formsIn f) (omega arith)))))
-  beyond (while p f) l i h =
-      let test : ℕ → Option New = λ j. around (λ q. while q f) (useAt p l j) in
-      let body : ℕ → Option New = λ j. around (λ g. while p g) (useAt f l j) in
-      past (atRoot l (while p f)) (λ j. within j (formsIn p) test body) i (formsIn p + formsIn f) h (λ j t.
-      pass j (formsIn p) test body (omega arith) (ap (around (λ g. while p g)) (beyond f l (j - formsIn p) (omega arith))))
-
-  beyond-all : (b : Bool) (fs : Forms) (l : Law) (j : ℕ) → formsInAll fs ≤ j → useAmong b fs l j ≡ none
-  beyond-all b stop l j h = refl
-  beyond-all b (f & fs) l j h =
-      pass j (formsIn f) (λ j. onSome (useAt f l j) (λ n. some (among b n fs))) (λ j. onSome (useAmong b fs l j) (λ gs. some (f & gs))) (omega arith)
-      (ap (λ (o : Option Forms). onSome o (λ gs. some (f & gs))) (beyond-all b fs l (j - formsIn f) (omega arith)))
 
 beyond-program : (P : Prog) (l : Law) (i : ℕ) → formsOf P ≤ i → useIn P l i ≡ none
 beyond-program [] l i h = refl

@@ -8,22 +8,20 @@ use lib.ListN.{length, drop}
 use lib.Seq.{take-append-seam}
 use borrow.Author.Tests.{le-ltb, eq-eqb}
 use Rattle.language.specs.declared.Meter.{Meter}
-use Rattle.language.specs.declared.Answer.{Answer}
 use Rattle.language.specs.Bytes.{bytes}
 use Rattle.language.specs.Objects.{Obj, cellsOf}
 use Rattle.language.specs.Words.{Op}
-use Rattle.language.specs.Forms.{word, op, Def, Prog, mainForm}
+use Rattle.language.specs.Forms.{word, op, Prog, mainForm}
 use Rattle.language.specs.Tokens.{span, placeFrom, size, sizeAt, dashSize}
 use Rattle.language.specs.Judging.{judgeWord, wordForm, judgePart, judgeName}
 use Rattle.language.specs.Reading.{got, readObject, readProgram, mark, afterPart, readForm, definitionAt, readDefinitions, isIn, noneTwice, withinLimits}
 use Rattle.language.specs.Writing.{writeObj, Scan, on, short, deep, scan}
 use Rattle.language.specs.Numbers.{one}
 use Rattle.language.specs.Evaluation.{noStep, noName, noCell, RunEnd, done, fell, ranOut, tooFew, startingCells, run}
-use Rattle.language.specs.Accepted.{IsObj, WellFormed}
+use Rattle.language.specs.Accepted.{IsObj}
 use Rattle.language.specs.Answers.{Lent, Outcome, counting, written, roomIn, scanned, ended, runCall}
-use Rattle.theorems.specs.Demand3.{object, Reached, wrote, Runs}
-use Rattle.theorems.specs.ReadBack.{ReadObject, ReadProgram}
-use Rattle.theorems.specs.Written.{textOf, Written, WrittenReadsBack, EnoughFor, WrittenAgain}
+use Rattle.theorems.specs.Demand3.{object, Reached, wrote}
+use Rattle.theorems.specs.Written.{textOf, WrittenReadsBack, WrittenAgain}
 use Rattle.theorems.proofs.ObjectsBack.{objects-read-back}
 use Rattle.theorems.proofs.ObjectsRead.{objects-read}
 use Rattle.theorems.proofs.ProgramsRead.{programs-read}

@@ -1,6 +1,6 @@
 -- A cell of a constant takes two bytes of a program's written text, so that 8,192 bytes hold at most 4,093 cells.
 use Prim.Native.Nat.{ℕ, min, _+_, _*_, _≤_}
-use mathlib.Core.List.{List, [], _∷_}
+use mathlib.Core.List.{[], _∷_}
 use native.Mathlib.Omega.{arith}
 use lib.IntN.{pos, negsuc}
 use lib.ListN.{length, length-append}

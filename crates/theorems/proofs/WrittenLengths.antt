@@ -11,7 +11,7 @@ use Rattle.language.specs.Bytes.{bytes}
 use Rattle.language.specs.Words.{Op}
 use Rattle.language.specs.Forms.{Form, word, name, chain, construct, constant, insert, applyAll, bu, condition, while, Forms, stop, _&_, Word, select, selectRight, op, _+&_, Prog, isChain}
 use Rattle.language.specs.Writing.{digits, decimal, writeWord, writeObj, bracketed, writeForm, writeParts, writeMoreParts, writeForms, writeMoreForms, writeProgram}
-use Rattle.language.specs.Laws.{put}
+use Rattle.language.specs.Laws.{joinIn}
 use Rattle.language.specs.Accepted.{IsName, IsForm}
 
 -- the brackets that stand round a chain
@@ -193,7 +193,7 @@ dotted-append stop gs = omega arith
 dotted-append (f & fs) gs = omega (arith, dotted-append fs gs)
 
 -- A form that is put among parts has a dot and no brackets.
-pub dotted-put : (g : Form) (fs : Forms) → IsForm g → dottedBytes (put g fs) ≡ suc (formBytes g + dottedBytes fs)
+pub dotted-put : (g : Form) (fs : Forms) → IsForm g → dottedBytes (joinIn g fs) ≡ suc (formBytes g + dottedBytes fs)
 dotted-put (word w) fs ok = omega arith
 dotted-put (name w) fs ok = omega arith
 dotted-put (chain stop) fs ok = absurd (ok .0)

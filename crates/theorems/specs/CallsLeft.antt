@@ -7,7 +7,7 @@ use mathlib.Core.List.{List, [], _∷_}
 use lib.Dec.{eqb}
 use lib.ListN.{length}
 use Rattle.language.specs.Objects.{Obj, Objs}
-use Rattle.language.specs.Forms.{Form, construct, constant, insert, applyAll, bu, Forms, Def}
+use Rattle.language.specs.Forms.{Form, construct, constant, insert, applyAll, bu, Forms}
 use Rattle.language.specs.Tokens.{byteAt, placeFrom}
 use Rattle.language.specs.Judging.{judgeAtom, judgePart, judgeName}
 use Rattle.language.specs.Numbers.{markLimit}

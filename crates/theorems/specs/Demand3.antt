@@ -6,7 +6,6 @@ use mathlib.Core.List.{List}
 use mathlib.Core.Option.{some}
 use lib.ListN.{take}
 use Rattle.language.specs.declared.Meter.{Meter}
-use Rattle.language.specs.declared.Answer.{Answer}
 use Rattle.language.specs.Objects.{Obj}
 use Rattle.language.specs.Forms.{Prog}
 use Rattle.language.specs.Reading.{got, readObject, readProgram}

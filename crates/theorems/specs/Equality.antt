@@ -5,7 +5,7 @@ use Rattle.language.specs.Objects.{Obj, symbolT, symbolF}
 use Rattle.language.specs.Words.{Op}
 use Rattle.language.specs.Forms.{op}
 use Rattle.language.specs.Numbers.{Edition}
-use Rattle.language.specs.Meanings.{gives, meaning, pair, Looked, look}
+use Rattle.language.specs.Meanings.{gives, meaning, pair, look}
 
 -- Looking at two objects finds no difference exactly if they are equal.
 abbrev pub EqDecides : Type 0

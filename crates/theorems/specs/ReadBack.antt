@@ -6,7 +6,7 @@ use mathlib.Core.Option.{some}
 use lib.ListN.{length}
 use Rattle.language.specs.Objects.{Obj}
 use Rattle.language.specs.Forms.{Prog}
-use Rattle.language.specs.Numbers.{markLimit, programLimit, one}
+use Rattle.language.specs.Numbers.{markLimit, programLimit}
 use Rattle.language.specs.Reading.{got, no, readObj, readObject, readDefinitions, readProgram, calls}
 use Rattle.language.specs.Writing.{writeObj, writeProgram, marksOfObj}
 use Rattle.language.specs.Uses.{applyLaw}

@@ -1,18 +1,17 @@
 -- The starred rows of document 01's "Checked rules": one list under one claim, from program text and object text to all six
 -- numbers and the written text.
-use Prim.Native.Nat.{ℕ, _*_}
+use Prim.Native.Nat.{ℕ}
 use Prim.Native.String.{String}
 use mathlib.Core.Path.{_≡_}
 use mathlib.Core.List.{List, [], _∷_, map}
 use lib.ListN.{take, replicate}
-use Rattle.language.specs.Numbers.{stepLimit, formTableSize, cellTableSize, one}
+use Rattle.language.specs.Numbers.{stepLimit, formTableSize, cellTableSize}
 use Rattle.language.specs.Bytes.{bytes}
 use Rattle.language.specs.declared.Meter.{Meter}
 use Rattle.language.specs.declared.Answer.{Answer}
-use Rattle.language.specs.Answers.{Lent, Outcome, runCall}
-use Rattle.language.specs.Fprun.{lentFor}
+use Rattle.language.specs.Answers.{Lent, runCall}
 
-pub record Row : Type 0 where
+pub record StarredRow : Type 0 where
   pub program : String
   pub object : String
   pub budgets : Meter
@@ -27,10 +26,10 @@ pub record Seen : Type 0 where
   pub answer : Answer
   pub text : List ℕ
 
-abbrev pub seen : Row → Seen
+abbrev pub seen : StarredRow → Seen
 seen r = let o = runCall (bytes (r .program)) (bytes (r .object)) (r .budgets) (lent (r .budgets)) in record { answer = o .answer; text = take (o .answer .length) (o .lent .output) }
 
-abbrev pub stated : Row → Seen
+abbrev pub stated : StarredRow → Seen
 stated r = record { answer = r .answer; text = bytes (r .text) }
 
 abbrev pub usual : Meter
@@ -39,7 +38,7 @@ usual = record { steps = stepLimit; names = 8; cells = 64 }
 abbrev pub says : (number steps cells length : ℕ) → Answer
 says n s c l = record { number = n; place = 0; text = 0; steps = s; cells = c; length = l }
 
-abbrev pub starred : List Row
+abbrev pub starred : List StarredRow
 starred =
     record { program = "main=/add.@mul.trans;"; object = "<<2,3>,<5,7>>"; budgets = usual; answer = says 20 8 16 2; text = "31" }
     ∷ record { program = "main=last;last=(null.tl->1;last.tl);"; object = "<4,7>"; budgets = usual; answer = says 20 14 2 1; text = "7" }

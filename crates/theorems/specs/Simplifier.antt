@@ -6,7 +6,7 @@ use mathlib.Core.List.{List, [], _∷_, _++_}
 use mathlib.Core.Option.{some, none}
 use Rattle.language.specs.Forms.{Prog}
 use Rattle.language.specs.Laws.{Law}
-use Rattle.language.specs.Uses.{applyLaw, laws, Simplified, simplify}
+use Rattle.language.specs.Uses.{applyLaw, laws, simplify}
 use Rattle.theorems.specs.Demand3.{Uses}
 
 -- no law applies at a place; none of some laws does

@@ -1,11 +1,10 @@
 -- What a run call writes reads as the object that was reached, and running it again gives it again.
-use Prim.Native.Nat.{ℕ, _*_, _≤_}
+use Prim.Native.Nat.{ℕ, _≤_}
 use mathlib.Core.Path.{_≡_}
 use mathlib.Core.List.{List}
 use lib.ListN.{length, take}
 use Rattle.language.specs.Numbers.{stepLimit, cellLimit, formTableSize, nameLimit, cellTableSize}
 use Rattle.language.specs.declared.Meter.{Meter}
-use Rattle.language.specs.declared.Answer.{Answer}
 use Rattle.language.specs.Bytes.{bytes}
 use Rattle.language.specs.Objects.{Obj, cellsOf}
 use Rattle.language.specs.Reading.{got, readObject}

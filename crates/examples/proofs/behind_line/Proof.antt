@@ -2,7 +2,6 @@
 use Prim.Native.Nat.{_-_, _≤_}
 use lib.ListN.{length}
 use borrow.Author.Needs.{needs}
-use native.Mathlib.Omega.{arith}
 use Rattle.examples.proofs.behind_line.Statement.{statement}
 use Rattle.examples.proofs.behind_line.Tie as tie
 

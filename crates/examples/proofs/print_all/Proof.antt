@@ -3,7 +3,6 @@ use Prim.Native.Nat.{_-_, _≤_}
 use lib.ListN.{length}
 use Rattle.examples.proofs.Further.{nearer}
 use borrow.Author.Needs.{needs}
-use native.Mathlib.Omega.{arith}
 use Rattle.examples.proofs.print_all.Statement.{statement}
 use Rattle.examples.proofs.print_all.Tie as tie
 

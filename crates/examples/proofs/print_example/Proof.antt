@@ -1,6 +1,5 @@
 -- An example is four lines.
 use Rattle.examples.proofs.Further.{four-ahead}
-use native.Mathlib.Omega.{arith}
 use borrow.Author.Needs.{needs}
 use Rattle.examples.proofs.print_example.Statement.{statement}
 use Rattle.examples.proofs.print_example.Tie as tie

@@ -1,11 +1,10 @@
 -- `pack` gives the word as a number, from its last byte to its first. The measure is what is left in front. Assumes nothing.
 use borrow.Author.Needs.{needs}
-use mathlib.Core.Path.{_≡_, sym, ap, _∙_}
-use Prim.Native.Nat.{ℕ, suc, _≤_, _-_, _+_, _*_}
+use mathlib.Core.Path.{_≡_, sym}
+use Prim.Native.Nat.{_≤_, _-_}
 use native.Mathlib.Omega.{arith}
-use lib.ListN.{length}
 use lib.Seq.{slice}
-use Rattle.packing.specs.Packing.{letterOf, packed}
+use Rattle.packing.specs.Packing.{packed}
 use Rattle.packing.proofs.Packed.{packed-none, packed-turn, packed-fits}
 use Rattle.packing.proofs.pack.Statement.{statement}
 use Rattle.packing.proofs.pack.Tie as tie

@@ -3,7 +3,6 @@ use borrow.Author.Needs.{needs}
 use Rattle.reading_export.proofs.Calls.{object-long, object-refuses, object-reads}
 use Rattle.reading_export.proofs.nattglod_read_object.Statement.{statement}
 use Rattle.reading_export.proofs.nattglod_read_object.Tie as tie
-use Rattle.reading_export.proofs.nattglod_read_object.Reads as reads
 
 pub nattglod-read-object-spec : {M : Type 1} → statement M
 nattglod-read-object-spec =

@@ -3,7 +3,6 @@ use borrow.Author.Needs.{needs}
 use Rattle.reading_export.proofs.Calls.{program-long, program-forms, program-names, program-refuses, program-reads}
 use Rattle.reading_export.proofs.nattglod_read_program.Statement.{statement}
 use Rattle.reading_export.proofs.nattglod_read_program.Tie as tie
-use Rattle.reading_export.proofs.nattglod_read_program.Reads as reads
 
 pub nattglod-read-program-spec : {M : Type 1} → statement M
 nattglod-read-program-spec =

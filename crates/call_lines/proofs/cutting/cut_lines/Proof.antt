@@ -1,5 +1,4 @@
 -- Three line feeds, the last at the end, are three lines; all else is of another shape.
-use native.Mathlib.Omega.{arith}
 use Rattle.call_lines.proofs.Splits.{no-feed, one-feed, two-feeds, more-behind, cut-three}
 use borrow.Author.Needs.{needs}
 use Rattle.call_lines.proofs.cutting.cut_lines.Statement.{statement}

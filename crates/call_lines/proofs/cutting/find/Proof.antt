@@ -1,6 +1,5 @@
 -- The invariant: no b stands from `from` up to i.
 use borrow.Author.Needs.{needs}
-use native.Mathlib.Omega.{arith}
 use Prim.Native.Nat.{_-_}
 use Rattle.call_lines.proofs.Splits.{Passed, find-start, find-on, find-here, find-over}
 use Rattle.call_lines.proofs.cutting.find.Statement.{statement}

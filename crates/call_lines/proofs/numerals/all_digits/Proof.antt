@@ -1,6 +1,5 @@
 -- The invariant: only digits stand from `from` up to i.
 use borrow.Author.Needs.{needs}
-use native.Mathlib.Omega.{arith}
 use Prim.Native.Nat.{_-_}
 use Rattle.call_lines.proofs.Spelled.{DigitsUpTo, digits-start, digits-on, digits-out, digits-over}
 use Rattle.call_lines.proofs.numerals.all_digits.Statement.{statement}

@@ -1,5 +1,4 @@
 -- A line with two spaces has three pieces.
-use native.Mathlib.Omega.{arith}
 use Rattle.call_lines.proofs.Spelled.{no-space, one-space, many-spaces, two-spaces}
 use borrow.Author.Needs.{needs}
 use Rattle.call_lines.proofs.numerals.read_budgets.Statement.{statement}

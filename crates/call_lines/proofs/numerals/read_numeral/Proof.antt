@@ -1,5 +1,4 @@
 -- A numeral is read as its value; all else is refused.
-use native.Mathlib.Omega.{arith}
 use Rattle.call_lines.proofs.Spelled.{no-digit, too-many, no-digits, one-digit, leading, no-leading}
 use borrow.Author.Needs.{needs}
 use Rattle.call_lines.proofs.numerals.read_numeral.Statement.{statement}

@@ -1,5 +1,4 @@
 -- Three numerals are the budgets.
-use native.Mathlib.Omega.{arith}
 use Rattle.call_lines.proofs.Spelled.{no-first, no-second, no-third, all-three}
 use borrow.Author.Needs.{needs}
 use Rattle.call_lines.proofs.numerals.read_three.Statement.{statement}

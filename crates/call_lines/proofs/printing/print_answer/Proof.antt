@@ -1,5 +1,4 @@
 -- Six numbers, and after 20 the text behind them.
-use native.Mathlib.Omega.{arith}
 use Rattle.call_lines.proofs.Lettered.{show-numbers, show-all, show-some}
 use borrow.Author.Needs.{needs}
 use Rattle.call_lines.proofs.printing.print_answer.Statement.{statement}

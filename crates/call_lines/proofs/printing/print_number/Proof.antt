@@ -1,5 +1,4 @@
 -- The digits stand at the end of the array; they are put into the output, and the byte behind them.
-use native.Mathlib.Omega.{arith}
 use Rattle.call_lines.proofs.Lettered.{room-behind, print-one}
 use borrow.Author.Needs.{needs}
 use Rattle.call_lines.proofs.printing.print_number.Statement.{statement}

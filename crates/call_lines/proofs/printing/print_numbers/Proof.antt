@@ -1,5 +1,4 @@
 -- Six numbers, one behind the other.
-use native.Mathlib.Omega.{arith}
 use Rattle.call_lines.proofs.Lettered.{print-six}
 use borrow.Author.Needs.{needs}
 use Rattle.call_lines.proofs.printing.print_numbers.Statement.{statement}

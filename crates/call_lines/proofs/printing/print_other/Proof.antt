@@ -1,5 +1,4 @@
 -- 99 and a line feed.
-use native.Mathlib.Omega.{arith}
 use Rattle.call_lines.proofs.Lettered.{print-99}
 use borrow.Author.Needs.{needs}
 use Rattle.call_lines.proofs.printing.print_other.Statement.{statement}

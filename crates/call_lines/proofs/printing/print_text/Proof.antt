@@ -1,5 +1,4 @@
 -- The text's bytes are put into the output, and a line feed behind them.
-use native.Mathlib.Omega.{arith}
 use Rattle.call_lines.proofs.Lettered.{print-line}
 use borrow.Author.Needs.{needs}
 use Rattle.call_lines.proofs.printing.print_text.Statement.{statement}

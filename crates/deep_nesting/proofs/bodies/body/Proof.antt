@@ -1,13 +1,8 @@
 -- `body` is safe and ends.
 use Prim.Native.Nat.{_-_, _<_}
 use borrow.Author.Needs.{needs}
-use native.Mathlib.Omega.{arith}
 use Rattle.deep_nesting.proofs.bodies.body.Statement.{statement}
 use Rattle.deep_nesting.proofs.bodies.body.Tie as tie
-use Rattle.deep_nesting.proofs.bodies.body.Reads as reads
-use Rattle.deep_nesting.proofs.bodies.body.Lts as lts
-use Rattle.deep_nesting.proofs.bodies.level.Reads as level-reads
-use Rattle.deep_nesting.proofs.bodies.put.Reads as put-reads
 
 abbrev Inv-loop : tie.InvT-loop
 Inv-loop kind before code f₀ b₀ f b = (kind < 32) × (before < 3)

@@ -1,12 +1,8 @@
 -- `deep_pair` is safe and ends.
 use Prim.Native.Nat.{_-_}
 use borrow.Author.Needs.{needs}
-use native.Mathlib.Omega.{arith}
 use Rattle.deep_nesting.proofs.objects.deep_pair.Statement.{statement}
 use Rattle.deep_nesting.proofs.objects.deep_pair.Tie as tie
-use Rattle.deep_nesting.proofs.objects.deep_pair.Reads as reads
-use Rattle.deep_nesting.proofs.objects.deep_pair.Lts as lts
-use Rattle.deep_nesting.proofs.objects.put.Reads as put-reads
 
 abbrev Inv-loop : tie.InvT-loop
 Inv-loop c₀ k₀ c k = Unit {0}

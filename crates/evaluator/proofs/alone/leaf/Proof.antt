@@ -1,17 +1,9 @@
 -- `leaf` meets its contract.
 use Rattle.evaluator.specs.Applying.{no-kind}
 use Rattle.evaluator.proofs.Applies.{alone-word, alone-select, alone-select-right, alone-constant}
-use native.Mathlib.Omega.{arith}
 use borrow.Author.Needs.{needs}
 use Rattle.evaluator.proofs.alone.leaf.Statement.{statement}
 use Rattle.evaluator.proofs.alone.leaf.Tie as tie
-use Rattle.evaluator.proofs.alone.leaf.Reads as reads
-use Rattle.evaluator.proofs.alone.leaf.Lts as lts
-use Rattle.evaluator.proofs.records.constant.Reads as constant-reads
-use Rattle.evaluator.proofs.records.low.Reads as low-reads
-use Rattle.primitives.proofs.apply_word.Reads as apply-word-reads
-use Rattle.primitives.proofs.select.Reads as select-reads
-use Rattle.primitives.proofs.select_right.Reads as select-right-reads
 
 -- 1 => apply_word(low(f, i), c, v, m),
 low-requires : tie.Need-low-requires

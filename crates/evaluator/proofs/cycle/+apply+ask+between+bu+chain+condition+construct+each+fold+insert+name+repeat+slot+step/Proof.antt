@@ -1,15 +1,13 @@
 -- The cycle of applications meets its contracts: one law for each return and each turn of a loop.
-use Prim.Native.Nat.{_+_, _*_, _-_, _≤_}
-use mathlib.Core.Path.{_∙_}
-use Rattle.evaluator.proofs.Steps.{below-step, applied-as, below-open, below-taken, below-applied, fell-by}
+use Prim.Native.Nat.{_+_, _*_, _-_}
+use Rattle.evaluator.proofs.Steps.{below-step, applied-as, below-open, below-taken, fell-by}
 use Rattle.evaluator.proofs.Chains.{Chaining, chain-start, chain-next, chain-stop, chain-end, ask-stop, ask-yes, ask-no, ask-none, below-says, cond-stop, cond-done, name-none, name-full, name-stop, may-close, name-done}
-use Rattle.evaluator.proofs.Builds.{slot-done, slot-stop, slot-fell, Building, build-start, build-turn, build-halt, build-done, Mapping, map-atom, map-start, map-turn, map-halt, map-done}
+use Rattle.evaluator.proofs.Builds.{slot-done, slot-stop, Building, build-start, build-turn, build-halt, build-done, Mapping, map-atom, map-start, map-turn, map-halt, map-done}
 use Rattle.evaluator.proofs.Repeats.{Repeating, repeat-start, repeat-stop, repeat-done, repeat-stop-2, repeat-less, repeat-next, below-turn}
-use Rattle.evaluator.proofs.Pairs.{bu-full, bu-done, fold-full, fold-done, fold-fell}
+use Rattle.evaluator.proofs.Pairs.{bu-full, bu-done, fold-full, fold-done}
 use Rattle.evaluator.proofs.Inserts.{Inserting, between-start, between-turn, between-halt, between-end, insert-atom, insert-none, insert-done}
 use Rattle.evaluator.proofs.Applies.{applied, apply-spent, apply-leaf, on-word, on-name, on-chain, on-construct, on-insert, on-all, on-condition, on-while, on-bu}
 use borrow.Author.Needs.{needs}
-use native.Mathlib.Omega.{arith}
 use Prim.Native.Nat.{ℕ, _<_}
 use borrow.Fn.Kinds.{In}
 use borrow.Fn.PlainCycle.{Measures, is, falls, and}

@@ -1,12 +1,8 @@
 -- `branch` meets its contract.
 use Rattle.evaluator.proofs.Numbers.{branch-false, branch-true}
-use native.Mathlib.Omega.{arith}
 use borrow.Author.Needs.{needs}
 use Rattle.evaluator.proofs.records.branch.Statement.{statement}
 use Rattle.evaluator.proofs.records.branch.Tie as tie
-use Rattle.evaluator.proofs.records.branch.Reads as reads
-use Rattle.evaluator.proofs.records.branch.Lts as lts
-use Rattle.evaluator.proofs.records.next.Reads as next-reads
 
 -- let j = next(f, h);
 next-requires : tie.Need-next-requires

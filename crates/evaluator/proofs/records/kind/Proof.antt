@@ -1,12 +1,8 @@
 -- `kind` meets its contract.
 use Rattle.evaluator.proofs.Numbers.{group-low, group-constant, group-bu, group-none}
-use native.Mathlib.Omega.{arith}
 use borrow.Author.Needs.{needs}
 use Rattle.evaluator.proofs.records.kind.Statement.{statement}
 use Rattle.evaluator.proofs.records.kind.Tie as tie
-use Rattle.evaluator.proofs.records.kind.Reads as reads
-use Rattle.evaluator.proofs.records.kind.Lts as lts
-use Rattle.tables.proofs.at.Reads as at-reads
 
 -- let k = tables::at(f, i as usize * 4) % 32;
 mul-at : tie.Need-mul-at

@@ -2,13 +2,8 @@
 use Prim.Native.Nat.{_-_}
 use Rattle.evaluator.proofs.Copies.{Copying, copy-start, copy-turn, copy-end}
 use borrow.Author.Needs.{needs}
-use native.Mathlib.Omega.{arith}
 use Rattle.evaluator.proofs.run.copied.Statement.{statement}
 use Rattle.evaluator.proofs.run.copied.Tie as tie
-use Rattle.evaluator.proofs.run.copied.Reads as reads
-use Rattle.evaluator.proofs.run.copied.Lts as lts
-use Rattle.evaluator.proofs.run.empty.Reads as empty-reads
-use Rattle.tables.proofs.at.Reads as at-reads
 
 abbrev Inv-loop : tie.InvT-loop
 Inv-loop forms f₀ i₀ f i = Copying forms f i

@@ -1,15 +1,8 @@
 -- `evaluate` meets its contract: what `name` ensures over the copied forms, with 4,096 places to wait in.
 use Rattle.evaluator.proofs.Applies.{ran-spent, ran}
-use native.Mathlib.Omega.{arith}
 use borrow.Author.Needs.{needs}
 use Rattle.evaluator.proofs.run.evaluate.Statement.{statement}
 use Rattle.evaluator.proofs.run.evaluate.Tie as tie
-use Rattle.evaluator.proofs.run.evaluate.Reads as reads
-use Rattle.evaluator.proofs.run.evaluate.Lts as lts
-use Rattle.evaluator.proofs.cycle.name.Reads as name-reads
-use Rattle.evaluator.proofs.run.copied.Reads as copied-reads
-use Rattle.evaluator.proofs.run.ring.Reads as ring-reads
-use Rattle.language.proofs.Meter.charge_step.Reads as charge-step-reads
 
 -- let k = match m.charge_step() {
 charge-step-requires : tie.Need-charge-step-requires

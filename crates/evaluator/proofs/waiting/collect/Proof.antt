@@ -1,14 +1,8 @@
 -- `collect` meets its contract.
 use Rattle.evaluator.proofs.Waits.{collect-full, collect-made}
-use native.Mathlib.Omega.{arith}
 use borrow.Author.Needs.{needs}
 use Rattle.evaluator.proofs.waiting.collect.Statement.{statement}
 use Rattle.evaluator.proofs.waiting.collect.Tie as tie
-use Rattle.evaluator.proofs.waiting.collect.Reads as reads
-use Rattle.evaluator.proofs.waiting.collect.Lts as lts
-use Rattle.cells.proofs.free_cell.Reads as free-cell-reads
-use Rattle.cells.proofs.gather.Reads as gather-reads
-use Rattle.language.proofs.Meter.charge_cells.Reads as charge-cells-reads
 
 -- let p = cells::free_cell(c, m);
 free-cell-requires : tie.Need-free-cell-requires

@@ -5,11 +5,6 @@ use native.Mathlib.Omega.{arith}
 use Rattle.evaluator.proofs.Spreads.{Spreading, spread-start, spread-next, spread-end}
 use Rattle.evaluator.proofs.waiting.spread.Statement.{statement}
 use Rattle.evaluator.proofs.waiting.spread.Tie as tie
-use Rattle.evaluator.proofs.waiting.spread.Reads as reads
-use Rattle.evaluator.proofs.waiting.spread.Lts as lts
-use Rattle.cells.proofs.head.Reads as head-reads
-use Rattle.cells.proofs.hold.Reads as hold-reads
-use Rattle.cells.proofs.tail.Reads as tail-reads
 
 abbrev Inv-loop : tie.InvT-loop
 Inv-loop c w₀ top many s₀ q₀ w s q = Spreading c w₀ top many s₀ w s q

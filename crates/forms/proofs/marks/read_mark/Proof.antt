@@ -3,7 +3,6 @@ use borrow.Author.Needs.{needs}
 use Rattle.forms.proofs.Plains.{mark-is, mark-other}
 use Rattle.forms.proofs.marks.read_mark.Statement.{statement}
 use Rattle.forms.proofs.marks.read_mark.Tie as tie
-use Rattle.forms.proofs.marks.read_mark.Reads as reads
 
 pub read-mark-spec : {M : Type 1} → statement M
 read-mark-spec =

@@ -3,7 +3,6 @@ use borrow.Author.Needs.{needs}
 use Rattle.forms.proofs.Plains.{bound-stops, bound-no, bound-open, bound-is, bound-mark-requires}
 use Rattle.forms.proofs.plain.read_bound.Statement.{statement}
 use Rattle.forms.proofs.plain.read_bound.Tie as tie
-use Rattle.forms.proofs.plain.read_bound.Reads as reads
 
 pub read-bound-spec : {M : Type 1} → statement M
 read-bound-spec =

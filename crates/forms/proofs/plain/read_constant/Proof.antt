@@ -3,7 +3,6 @@ use borrow.Author.Needs.{needs}
 use Rattle.forms.proofs.Plains.{constant-stops, constant-is, constant-tag-fits}
 use Rattle.forms.proofs.plain.read_constant.Statement.{statement}
 use Rattle.forms.proofs.plain.read_constant.Tie as tie
-use Rattle.forms.proofs.plain.read_constant.Reads as reads
 
 pub read-constant-spec : {M : Type 1} → statement M
 read-constant-spec =

@@ -3,7 +3,6 @@ use borrow.Author.Needs.{needs}
 use Rattle.forms.proofs.Plains.{plain-op, plain-select, plain-right, plain-name, plain-not}
 use Rattle.forms.proofs.plain.read_plain.Statement.{statement}
 use Rattle.forms.proofs.plain.read_plain.Tie as tie
-use Rattle.forms.proofs.plain.read_plain.Reads as reads
 
 pub read-plain-spec : {M : Type 1} → statement M
 read-plain-spec =

@@ -1,8 +1,7 @@
 -- The cycle of form and part readers meets its contracts. The measure is five times the text left, and 0 to 3 by how many calls
 -- a function is from read_part. Each answer cites a law of proofs/. Assumes nothing.
 use borrow.Author.Needs.{needs}
-use native.Mathlib.Omega.{arith}
-use Prim.Native.Nat.{ℕ, _<_, _≤_, _+_, _*_, _-_}
+use Prim.Native.Nat.{ℕ, _<_, _+_, _*_, _-_}
 use lib.ListN.{length}
 use borrow.Fn.Kinds.{In}
 use borrow.Fn.PlainCycle.{Measures, is, falls, and}

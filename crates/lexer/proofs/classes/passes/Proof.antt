@@ -1,5 +1,4 @@
 -- `passes` gives the test of the class. Assumes nothing.
-use native.Mathlib.Omega.{arith}
 use borrow.Author.Needs.{needs}
 use Rattle.lexer.proofs.classes.passes.Statement.{statement}
 use Rattle.lexer.proofs.classes.passes.Tie as tie

@@ -1,10 +1,9 @@
 -- `value` gives the value of the digits, or 2,147,483,649 if it is that or more. The invariant: the value from the start is
 -- the value of what is left with v before it. The measure is what is left. Assumes nothing.
 use borrow.Author.Needs.{needs}
-use mathlib.Core.Path.{_≡_, sym, ap, _∙_}
-use Prim.Native.Nat.{ℕ, _≤_, _-_, _+_, _*_, min}
+use mathlib.Core.Path.{_≡_}
+use Prim.Native.Nat.{_≤_, _-_, _+_, _*_, min}
 use native.Mathlib.Omega.{arith}
-use lib.ListN.{length}
 use lib.Seq.{slice}
 use Rattle.language.specs.Judging.{valueFrom}
 use Rattle.lexer.proofs.Values.{value-turn, value-end, value-grows}

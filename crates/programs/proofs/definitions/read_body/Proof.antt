@@ -3,7 +3,6 @@ use borrow.Author.Needs.{needs}
 use Rattle.programs.proofs.Bodies.{body-stops, body-no, body-open, body-is, body-ready, body-mark-requires}
 use Rattle.programs.proofs.definitions.read_body.Statement.{statement}
 use Rattle.programs.proofs.definitions.read_body.Tie as tie
-use Rattle.programs.proofs.definitions.read_body.Reads as reads
 
 pub read-body-spec : {M : Type 1} → statement M
 read-body-spec =

@@ -3,7 +3,6 @@ use borrow.Author.Needs.{needs}
 use Rattle.programs.proofs.Bodies.{definition-unnamed, definition-stops, definition-is}
 use Rattle.programs.proofs.definitions.read_definition.Statement.{statement}
 use Rattle.programs.proofs.definitions.read_definition.Tie as tie
-use Rattle.programs.proofs.definitions.read_definition.Reads as reads
 
 pub read-definition-spec : {M : Type 1} → statement M
 read-definition-spec =

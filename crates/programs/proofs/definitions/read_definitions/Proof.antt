@@ -5,7 +5,6 @@ use lib.ListN.{length}
 use Rattle.programs.proofs.Defining.{Defining, defining-starts, definitions-end, definition-requires, definitions-stop, definitions-next, definitions-less, definitions-count-fits}
 use Rattle.programs.proofs.definitions.read_definitions.Statement.{statement}
 use Rattle.programs.proofs.definitions.read_definitions.Tie as tie
-use Rattle.programs.proofs.definitions.read_definitions.Reads as reads
 
 abbrev Inv-loop : tie.InvT-loop
 Inv-loop s t₀ u₀ d₀ at₀ n₀ c₀ k₀ t u d at n c k = Defining s t₀ u₀ d₀ at n c k t u d

@@ -3,7 +3,6 @@ use borrow.Author.Needs.{needs}
 use Rattle.programs.proofs.Programs.{program-stops, program-forms, program-names, program-twice, program-is}
 use Rattle.programs.proofs.definitions.read_program.Statement.{statement}
 use Rattle.programs.proofs.definitions.read_program.Tie as tie
-use Rattle.programs.proofs.definitions.read_program.Reads as reads
 
 pub read-program-spec : {M : Type 1} → statement M
 read-program-spec =

@@ -1,7 +1,6 @@
 -- i goes up to `to`.
 use Prim.Native.Nat.{_-_, _≤_}
 use borrow.Author.Needs.{needs}
-use native.Mathlib.Omega.{arith}
 use Rattle.vectors.proofs.comparing.first_other.Statement.{statement}
 use Rattle.vectors.proofs.comparing.first_other.Tie as tie
 

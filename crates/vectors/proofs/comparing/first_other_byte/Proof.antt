@@ -2,7 +2,6 @@
 use Prim.Native.Nat.{_-_, _≤_}
 use lib.ListN.{length}
 use borrow.Author.Needs.{needs}
-use native.Mathlib.Omega.{arith}
 use Rattle.vectors.proofs.comparing.first_other_byte.Statement.{statement}
 use Rattle.vectors.proofs.comparing.first_other_byte.Tie as tie
 
