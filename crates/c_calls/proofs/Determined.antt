@@ -1,5 +1,5 @@
 -- The contract of a run that is told allows one result only.
-use mathlib.Core.Path.{_≡_, ap, sym, _∙_}
+use mathlib.Core.Path.{ap, sym, _∙_}
 use Rattle.nattglod.proofs.Determined.{run-determined}
 use Rattle.c_calls.specs.Told.{told, TellingDetermined}
 

@@ -1,6 +1,6 @@
 -- The contract of a reply allows one result only.
 use Prim.Native.Nat.{ℕ}
-use mathlib.Core.Path.{_≡_, ap, sym, _∙_}
+use mathlib.Core.Path.{ap, sym, _∙_}
 use mathlib.Core.List.{_++_}
 use lib.ListN.{drop}
 use Rattle.language.specs.Fprun.{fprun}
