@@ -21,7 +21,6 @@ use Rattle.language.specs.Judging.{Judged, is, isNot, onJudged, all, judgeWord,
 use Rattle.lexer.specs.declared.Class.{Class}
 use Rattle.lexer.specs.declared.Class.the-variants.{Digit, Symbol, Name}
 use Rattle.lexer.specs.declared.AtomJudged.{AtomJudged}
-use Rattle.lexer.specs.declared.PartJudged.{PartJudged}
 use Rattle.lexer.specs.declared.AtomJudged.the-variants as A
 use Rattle.lexer.specs.declared.PartJudged.the-variants as P
 use Rattle.lexer.specs.declared.NameJudged.the-variants as N
@@ -29,7 +28,7 @@ use Rattle.lexer.specs.Classes.{testOf}
 use Rattle.lexer.specs.Readings.{Spanned, WordSized}
 use Rattle.packing.specs.Packing.{packed}
 use Rattle.lexer.specs.Vocabulary.{codeOf}
-use Rattle.lexer.specs.Judgements.{atomJudged, formJudged, partJudged, nameJudged, judgeSymbol, judgePlain, WordJudged}
+use Rattle.lexer.specs.Judgements.{atomVal, atomJudged, formJudged, partJudged, nameJudged, judgeSymbol, judgePlain, WordJudged}
 use Rattle.packing.proofs.Slices.{slice-first}
 use Rattle.lexer.proofs.Spans.{all-yes, all-no, slice-none}
 use Rattle.lexer.proofs.Sizes.{within}
@@ -258,52 +257,47 @@ module _ (s : List ℕ) (p n : ℕ) where
         pub name-good : {v : ℕ} → 23 ≤ k → v ≡ packed (slice p (p + n) s) → N.Is v ≡ nameJudged (judgeName (slice p (p + n) s))
         name-good {v} h e = name-new (findOp ops (slice p (p + n) s)) (slice p (p + n) s) k v found h e ∙ ap nameJudged (sym (name-word is-letter ∙ stands (judgeWord (testOf Name) (slice p (p + n) s)) (slice p (p + n) s) r (λ v. nameOr (findOp ops v) v) judged stays))
 
--- where an object may stand, by the first byte
-atom-is : (w : List ℕ) (b : ℕ) (ds : List ℕ) → w ≡ b ∷ ds → judgeAtom w ≡ cond (isDigit b) (judgeInteger w) (cond (isLetter b) (judgeSymbol w) (cond (eqb b 45) (judgeNegative ds) (isNot 6)))
+-- ---- where an object or a part may stand, by the first byte: a number, a word, or all else
+pub record ByFirst {B R : Type 0} (told : Judged B → R) (judge number word : List ℕ → Judged B) (other : ℕ → List ℕ → Judged B) : Type 0 where
+  none-is : judge [] ≡ isNot 6
+  some-is : (w : List ℕ) (b : ℕ) (ds : List ℕ) → w ≡ b ∷ ds → judge w ≡ cond (isDigit b) (number w) (cond (isLetter b) (word w) (other b ds))
+
+abbrev atom-else : ℕ → List ℕ → Judged Obj
+atom-else b ds = cond (eqb b 45) (judgeNegative ds) (isNot 6)
+
+pub atoms : ByFirst atomJudged judgeAtom judgeInteger judgeSymbol atom-else
 unfolding judgeAtom judgeSymbol
-atom-is w b ds e = rw e
+atoms = record { none-is = refl; some-is = λ w b ds e. rw e }
 
-part-is : (w : List ℕ) (b : ℕ) (ds : List ℕ) → w ≡ b ∷ ds → judgePart w ≡ cond (isDigit b) (judgeSelector w) (cond (isLetter b) (judgePlain w) (isNot 6))
+pub parts : ByFirst partJudged judgePart judgeSelector judgePlain (λ b ds. isNot 6)
 unfolding judgePart judgePlain
-part-is w b ds e = rw e
+parts = record { none-is = refl; some-is = λ w b ds e. rw e }
 
-module _ (s : List ℕ) (p n : ℕ) (fits : p + n ≤ length s) where
-  pub atom-none : n ≡ 0 → A.Not 6 ≡ atomJudged (judgeAtom (slice p (p + n) s))
-  unfolding judgeAtom
-  atom-none h = rw (none-there s p n fits h)
-
-  pub part-none : n ≡ 0 → P.Not 6 ≡ partJudged (judgePart (slice p (p + n) s))
-  unfolding judgePart
-  part-none h = rw (none-there s p n fits h)
+module _ {B R : Type 0} {told : Judged B → R} {judge number word : List ℕ → Judged B} {other : ℕ → List ℕ → Judged B} (first : ByFirst told judge number word other) (s : List ℕ) (p n : ℕ) (fits : p + n ≤ length s) where
+  pub first-none : {r : R} → n ≡ 0 → r ≡ told (isNot 6) → r ≡ told (judge (slice p (p + n) s))
+  first-none h e = rw (none-there s p n fits h, first .none-is) e
 
   module _ {d : Bool} (some : n ≡ 0 → ⊥) (digit : d ≡ isDigit (getD s p 0)) where
-    atom-here : judgeAtom (slice p (p + n) s) ≡ cond d (judgeInteger (slice p (p + n) s)) (cond (isLetter (getD s p 0)) (judgeSymbol (slice p (p + n) s)) (cond (eqb (getD s p 0) 45) (judgeNegative (slice (p + 1) (p + n) s)) (isNot 6)))
-    atom-here = rw digit (atom-is (slice p (p + n) s) (getD s p 0) (slice (p + 1) (p + n) s) (there s p n fits some))
+    here : judge (slice p (p + n) s) ≡ cond d (number (slice p (p + n) s)) (cond (isLetter (getD s p 0)) (word (slice p (p + n) s)) (other (getD s p 0) (slice (p + 1) (p + n) s)))
+    here = rw digit (first .some-is (slice p (p + n) s) (getD s p 0) (slice (p + 1) (p + n) s) (there s p n fits some))
 
-    part-here : judgePart (slice p (p + n) s) ≡ cond d (judgeSelector (slice p (p + n) s)) (cond (isLetter (getD s p 0)) (judgePlain (slice p (p + n) s)) (isNot 6))
-    part-here = rw digit (part-is (slice p (p + n) s) (getD s p 0) (slice (p + 1) (p + n) s) (there s p n fits some))
-
-    pub atom-integer : {r : AtomJudged} → d ≡ true → r ≡ atomJudged (judgeInteger (slice p (p + n) s)) → r ≡ atomJudged (judgeAtom (slice p (p + n) s))
-    atom-integer h e = rw (atom-here, h) e
-
-    pub part-selector : {r : PartJudged} → d ≡ true → r ≡ partJudged (judgeSelector (slice p (p + n) s)) → r ≡ partJudged (judgePart (slice p (p + n) s))
-    part-selector h e = rw (part-here, h) e
+    pub first-number : {r : R} → d ≡ true → r ≡ told (number (slice p (p + n) s)) → r ≡ told (judge (slice p (p + n) s))
+    first-number h e = rw (here, h) e
 
     module _ {l : Bool} (no-digit : d ≡ false) (letter : l ≡ isLetter (getD s p 0)) where
-      pub atom-symbol : {r : AtomJudged} → l ≡ true → r ≡ atomJudged (judgeSymbol (slice p (p + n) s)) → r ≡ atomJudged (judgeAtom (slice p (p + n) s))
-      atom-symbol h e = rw (atom-here, no-digit, sym letter ∙ h) e
+      pub first-word : {r : R} → l ≡ true → r ≡ told (word (slice p (p + n) s)) → r ≡ told (judge (slice p (p + n) s))
+      first-word h e = rw (here, no-digit, sym letter ∙ h) e
 
-      pub part-plain : {r : PartJudged} → l ≡ true → r ≡ partJudged (judgePlain (slice p (p + n) s)) → r ≡ partJudged (judgePart (slice p (p + n) s))
-      part-plain h e = rw (part-here, no-digit, sym letter ∙ h) e
+      pub first-other : {r : R} → l ≡ false → r ≡ told (other (getD s p 0) (slice (p + 1) (p + n) s)) → r ≡ told (judge (slice p (p + n) s))
+      first-other h e = rw (here, no-digit, sym letter ∙ h) e
 
-      pub part-other : l ≡ false → P.Not 6 ≡ partJudged (judgePart (slice p (p + n) s))
-      part-other h = rw (part-here, no-digit, sym letter ∙ h)
+-- what is no digit and no letter, where an object may stand: a minus or nothing that fits
+module _ (b : ℕ) (ds : List ℕ) where
+  pub other-not : (b ≡ 45 → ⊥) → A.Not 6 ≡ atomJudged (atom-else b ds)
+  other-not m = rw (ne-eqb b 45 m)
 
-      pub atom-other : l ≡ false → (getD s p 0 ≡ 45 → ⊥) → A.Not 6 ≡ atomJudged (judgeAtom (slice p (p + n) s))
-      atom-other h m = rw (atom-here, no-digit, sym letter ∙ h, ne-eqb (getD s p 0) 45 m)
-
-      pub atom-negative : {r : AtomJudged} → l ≡ false → getD s p 0 ≡ 45 → r ≡ atomJudged (judgeNegative (slice (p + 1) (p + n) s)) → r ≡ atomJudged (judgeAtom (slice p (p + n) s))
-      atom-negative h m e = rw (atom-here, no-digit, sym letter ∙ h, eq-eqb (getD s p 0) 45 m) e
+  pub other-minus : {r : AtomJudged} → b ≡ 45 → r ≡ atomJudged (judgeNegative ds) → r ≡ atomJudged (atom-else b ds)
+  other-minus m e = rw (eq-eqb b 45 m) e
 
 -- selectors
 pub selector-none : (s : List ℕ) (from to : ℕ) → to ≤ length s → from ≡ to → false ≡ isSelector (slice from to s)

@@ -1,5 +1,6 @@
 // The calls themselves: 1 to 5 touch nothing, and after all other answers both tables are zero throughout.
 ghost use mathlib.Core.Path.{_≡_};
+ghost use lib.ListN.{length, replicate};
 ghost use Rattle.nattglod.specs.Calls.{budgets, lends, RunAnswered, earlyRefusal};
 ghost use Rattle.nattglod.specs.Stages.{tableRefusal};
 use super::answers;
@@ -42,6 +43,14 @@ fn early_refusal(program: usize, object: usize, b: Meter, forms: usize, cells: u
     table_refusal(b.cells, forms, cells)
 }
 
+// Makes both tables zero throughout.
+fn zero_tables(forms: &mut [u32], cells: &mut [u32])
+    ensures { λ _. ⌜ (now (forms .exit) ≡ replicate (length (now (forms .entry))) 0) × (now (cells .exit) ≡ replicate (length (now (cells .entry))) 0) ⌝ }
+{
+    tables::zero_all(forms);
+    tables::zero_all(cells);
+}
+
 // Runs a program on an object: the form table has 8,192 numbers and the cell table four to each budgeted cell.
 pub fn run(
     program: &[u8],
@@ -71,7 +80,6 @@ pub fn run(
         return answers::bare(refusal);
     }
     let answer = texts::answer_texts(program, object, b, forms, cell_table, output);
-    tables::zero_all(forms);
-    tables::zero_all(cell_table);
+    zero_tables(forms, cell_table);
     answer
 }

@@ -20,7 +20,7 @@ use Rattle.cells.specs.Cells.{Rep, rep-pos}
 use Rattle.cells.proofs.Reps.{val-same}
 use Rattle.cells.proofs.Inversions.{tag-low}
 use Rattle.lexer.specs.Vocabulary.{opCode, spelledAt}
-use Rattle.lexer.specs.Packing as lexed
+use Rattle.packing.specs.Packing as lexed
 use Rattle.packing.specs.declared.Case.the-variants.{Lower}
 use Rattle.packing.proofs.Packed.{name-back}
 use Rattle.lexer.proofs.Words.{spelled-of, code-below}

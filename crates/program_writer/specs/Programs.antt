@@ -44,17 +44,17 @@ pub record ProgramWalked (t C D : List ℕ) (defs r : ℕ) (out out′ : List �
   pub means : (n e : ℕ) (P : Prog) → Holds t C D defs n e P → marksOfProgram P ≤ markLimit → Wrote (writeProgram P) 0 r out out′
 
 pub record TextMeasured (t C D : List ℕ) (defs r : ℕ) : Type 0 where
-  pub means : (n e : ℕ) (P : Prog) → Holds t C D defs n e P → marksOfProgram P ≤ markLimit → r ≡ min (length (writeProgram P)) (suc writtenLimit)
+  pub means : (n e : ℕ) (P : Prog) → Holds t C D defs n e P → marksOfProgram P ≤ markLimit → r ≡ min (length (writeProgram P)) (writtenLimit + 1)
 
 -- the marks need no name
 pub record ProgramDepth (t C : List ℕ) (defs r : ℕ) : Type 0 where
-  pub means : (n e : ℕ) (P : Prog) → n < 4294967296 → e ≤ formLimit → length P ≡ defs → Stands t C n 0 (bodies P) e → r ≡ min (marksOfProgram P) (suc markLimit)
+  pub means : (n e : ℕ) (P : Prog) → n < 4294967296 → e ≤ formLimit → length P ≡ defs → Stands t C n 0 (bodies P) e → r ≡ min (marksOfProgram P) (markLimit + 1)
 
 -- ---- the calls
 -- The length of the text up to 16,385, where no 33rd mark opens; the marks up to 33, for which the names don't matter.
 pub record ProgramMeasured (t C D : List ℕ) (defs : ℕ) (r : Measured) : Type 0 where
-  pub size : (n e : ℕ) (P : Prog) → Holds t C D defs n e P → marksOfProgram P ≤ markLimit → r .length ≡ min (length (writeProgram P)) (suc writtenLimit)
-  pub marks : (n e : ℕ) (P : Prog) → n < 4294967296 → e ≤ formLimit → length P ≡ defs → Stands t C n 0 (bodies P) e → r .marks ≡ min (marksOfProgram P) (suc markLimit)
+  pub size : (n e : ℕ) (P : Prog) → Holds t C D defs n e P → marksOfProgram P ≤ markLimit → r .length ≡ min (length (writeProgram P)) (writtenLimit + 1)
+  pub marks : (n e : ℕ) (P : Prog) → n < 4294967296 → e ≤ formLimit → length P ≡ defs → Stands t C n 0 (bodies P) e → r .marks ≡ min (marksOfProgram P) (markLimit + 1)
 
 -- All of the text stands in front and the rest of the output is as it was; or nothing has changed.
 pub data ProgramEnd (text : List ℕ) (r : Written) (out out′ : List ℕ) : Type 0 where

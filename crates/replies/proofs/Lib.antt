@@ -1,3 +1,4 @@
--- The laws that the proofs of replies cite.
+-- The laws that the proofs of replies cite, and the theorem on its contract.
 pub mod Alike
+pub mod Determined
 pub mod Replying

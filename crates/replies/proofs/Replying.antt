@@ -1,13 +1,13 @@
 -- What was printed is the reply: to a call, to three lines, to an input.
 use Prim.Native.Nat.{ℕ, _+_, _-_, _*_, _≤_, _<_}
 use mathlib.Core.Path.{_≡_, ap, sym, subst, _∙_}
-use mathlib.Core.List.{List}
+use mathlib.Core.List.{List, _++_}
 use mathlib.Core.Option.{Option, some, none}
 use native.Mathlib.Nat.{zero-add}
 use native.Mathlib.Omega.{arith}
 use borrow.Author.Tests.{le-leb, lt-leb}
 use lib.ListN.{length, take, drop, length-replicate}
-use lib.Seq.{slice, take-append-seam, length-take-le}
+use lib.Seq.{slice, length-take-le}
 use Rattle.language.specs.Bytes.{bytes}
 use Rattle.groundwork.specs.Options.{onSome}
 use Rattle.language.specs.Answers.{runCall}
@@ -104,24 +104,29 @@ lines-within {a = a} {b = b} {c = c} (three-lines {a = a′} {b = b′} {c = c�
 lines-within {a = a} {b = b} {c = c} (other-shape k) e room = apart (sym e)
 
 module _ {s out out′ : List ℕ} {r : ℕ} (room : length out ≡ 16451) where
-  replied : {t : List ℕ} {n : ℕ} → n ≤ 16451 → t ≡ fprun s → Printed t n out 0 r out′ → Replied s r out′
+  replied : {t : List ℕ} {n : ℕ} → n ≤ 16451 → t ≡ fprun s → Printed t n out 0 r out′ → Replied s out r out′
   unfolding put
   replied {t} h e p =
       let few = p .few in
-      let ends : r ≡ length t = p .ends ∙ zero-add (length t) in
       let k = ap length (p .is) ∙ length-put out 0 t (omega arith) in
-      record { is = rw (p .is, ends, take-append-seam) e; fits = omega arith; counts = sym (length-take-le r out′ (omega arith)) }
+      let is : out′ ≡ t ++ drop r out = p .is ∙ ap (λ (n : ℕ). t ++ drop n out) (sym (p .ends)) in
+      record {
+        is = is ∙ ap (λ (u : List ℕ). u ++ drop r out) e;
+        ends = p .ends ∙ zero-add (length t) ∙ ap length e;
+        fits = omega arith;
+        counts = sym (length-take-le r out′ (omega arith));
+      }
 
-  pub too-long : 25000 < length s → Printed other 3 out 0 r out′ → Replied s r out′
+  pub too-long : 25000 < length s → Printed other 3 out 0 r out′ → Replied s out r out′
   unfolding fprun
   too-long h p = replied (omega arith) (rw (lt-leb (length s) 25000 h)) p
 
   module _ (short : length s ≤ 25000) where
-    pub other-shaped : {l : Lines} → LinesCut s l → l ≡ Other → Printed other 3 out 0 r out′ → Replied s r out′
+    pub other-shaped : {l : Lines} → LinesCut s l → l ≡ Other → Printed other 3 out 0 r out′ → Replied s out r out′
     other-shaped (three-lines _ _ _ _) e p = apart e
     other-shaped (other-shape k) e p = replied (omega arith) (sym (fprun-shaped s short ∙ ap reply (k answered))) p
 
-    pub three-shaped : {l : Lines} (a b c : ℕ) → LinesCut s l → l ≡ Three a b c → Printed (linesReply (slice 0 a s) (slice (a + 1) b s) (slice (b + 1) c s)) 16451 out 0 r out′ → Replied s r out′
+    pub three-shaped : {l : Lines} (a b c : ℕ) → LinesCut s l → l ≡ Three a b c → Printed (linesReply (slice 0 a s) (slice (a + 1) b s) (slice (b + 1) c s)) 16451 out 0 r out′ → Replied s out r out′
     unfolding linesReply
     three-shaped a b c (three-lines {a = a′} {b = b′} {c = c′} _ _ _ k) e p =
         let i : a′ ≡ a = cc in

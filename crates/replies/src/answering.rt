@@ -52,9 +52,9 @@ fn answer_lines(s: &[u8], first: usize, second: usize, third: usize, out: &mut [
     answer_call(&s[program..second], &s[object..third], m, out)
 }
 
-// The reply to the input stands in the first r bytes.
+// The reply to the input stands in the first r bytes; behind it `out` is as it was.
 pub fn answer_input(s: &[u8], out: &mut [u8; 16451]) -> usize
-    ensures { λ r. ⌜ Replied (now (s .entry)) r (now (out .exit)) ⌝ }
+    ensures { λ r. ⌜ Replied (now (s .entry)) (now (out .entry)) r (now (out .exit)) ⌝ }
 {
     if 25000 < s.len() {
         return call_lines::print_other(out);

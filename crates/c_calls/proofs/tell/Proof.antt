@@ -33,7 +33,7 @@ returns c =
     let c₃ = c₄ .before .before .before .before in
     let c₂ = c₃ .before .before .before .before in
     let c₁ = c₂ .before .before .before .before in
-    told-is (c₁ .store .ensures) (c₂ .store2 .ensures) (c₃ .store3 .ensures) (c₄ .store4 .ensures) (c₅ .store5 .ensures) (c₆ .store6 .ensures)
+    told-is {r = c₁ .before .before .before .args .r} (c₁ .store .ensures) (c₂ .store2 .ensures) (c₃ .store3 .ensures) (c₄ .store4 .ensures) (c₅ .store5 .ensures) (c₆ .store6 .ensures)
 
 pub tell-spec : {M : Type 1} → statement M
 tell-spec =

@@ -12,8 +12,7 @@ run-spec =
     (λ c κs. search needs)  -- bare-requires
     (λ c. search run-refused)  -- returns
     (λ c κs. search run-sized)  -- answer-texts-requires
-    (λ c κs. search needs)  -- zero-all-requires
-    (λ c κs. search needs)  -- zero-all-requires-2
+    (λ c κs. search needs)  -- zero-tables-requires
     (λ c. search needs)  -- same-length
     (λ c. search needs)  -- same-length-2
     (λ c. search needs)  -- same-length-3
