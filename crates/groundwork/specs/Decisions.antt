@@ -4,7 +4,7 @@ use mathlib.Core.Path.{_≡_, refl, sym, ap, ap₂, subst}
 use mathlib.Core.Bool.{true, false}
 use mathlib.Core.List.{List, [], _∷_, head-eq-of-cons-eq, tail-eq-of-cons-eq, nil≢cons, cons≢nil}
 use lib.IntN.{ℤ, pos, negsuc, pos-ne-negsuc}
-use lib.Dec.{eqb, T, eqb-refl}
+use lib.Dec.{eqb, T, eqb→eq, eqb-refl}
 
 pub eqb-is : (m n : ℕ) → eqb m n ≡ true → m ≡ n
 eqb-is m n h = eqb→eq m n (subst T (sym h) tt)

@@ -28,7 +28,7 @@ use Rattle.lexer.specs.Classes.{testOf}
 use Rattle.lexer.specs.Readings.{Spanned, WordSized}
 use Rattle.packing.specs.Packing.{packed}
 use Rattle.lexer.specs.Vocabulary.{codeOf}
-use Rattle.lexer.specs.Judgements.{atomVal, atomJudged, formJudged, partJudged, nameJudged, judgeSymbol, judgePlain, WordJudged}
+use Rattle.lexer.specs.Judgements.{atomJudged, formJudged, partJudged, nameJudged, judgeSymbol, judgePlain, WordJudged}
 use Rattle.packing.proofs.Slices.{slice-first}
 use Rattle.lexer.proofs.Spans.{all-yes, all-no, slice-none}
 use Rattle.lexer.proofs.Sizes.{within}

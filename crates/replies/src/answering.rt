@@ -5,9 +5,9 @@ ghost use lib.Seq.{slice};
 ghost use Rattle.call_lines.specs.Printing.{Printed};
 ghost use Rattle.replies.specs.Replies.{Replied, CellsLent, LinesEnd, callReply, linesReply};
 use super::buffers;
-use language::Meter;
 use call_lines::Budgets;
 use call_lines::Lines;
+use language::Meter;
 
 // How much of the cell table is lent for so many cells; over the limit none.
 fn cells_lent(cells: u32) -> usize
