@@ -12,7 +12,7 @@ use lib.IntN.{pos, negℤ}
 use lib.ListN.{length, getD, take, drop}
 use lib.Seq.{slice, length-slice, take-take, take-nil, drop-drop}
 use Rattle.language.specs.Bytes.{bytes, sameBytes}
-use Rattle.language.specs.Objects.{symbol}
+use Rattle.language.specs.Objects.{Obj, symbol}
 use Rattle.language.specs.Words.{Op, ops}
 use Rattle.language.specs.Forms.{Form, word, name, select, selectRight, op}
 use Rattle.language.specs.Tokens.{span, isDigit, isLetter, sizeAt}

@@ -1,4 +1,5 @@
 -- `table` gives every row: the whole table passes one computed test. Assumes nothing.
+use lib.Dec.{leb→le}
 use Rattle.lexer.specs.Vocabulary.{rowOf}
 use Rattle.lexer.proofs.Words.{right, table-right}
 use Rattle.lexer.proofs.vocabulary.table.Statement.{statement}
