@@ -4,6 +4,7 @@ use mathlib.Core.Path.{_≡_}
 use mathlib.Core.Bool.{Bool}
 use lib.IntN.{ℤ, pos, negsuc, negℤ}
 use lib.Signed.{ltZ}
+use Rattle.language.specs.Numbers.{half, one}
 use Rattle.language.specs.declared.Val.{Val}
 
 pub data HoldsInteger : Val → ℤ → Type 0 where
@@ -13,12 +14,12 @@ pub data HoldsInteger : Val → ℤ → Type 0 where
 -- an integer of at most 2^31 and one, so that sums and products fit 64 bits
 pub record SmallInteger (v : Val) : Type 0 where
   pub tag : v .tag < 2
-  pub word : v .word ≤ 2147483648
+  pub word : v .word ≤ half one
 
 -- one of document 01's integers
 pub record Short (v : Val) : Type 0 where
   pub tag : v .tag < 2
-  pub word : v .word < 2147483648
+  pub word : v .word < half one
 
 -- r holds what the operation gives of the integers that a and b hold
 pub record Computes (f : ℤ → ℤ → ℤ) (a b r : Val) : Type 0 where

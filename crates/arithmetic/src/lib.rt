@@ -4,13 +4,9 @@ ghost use Prim.Native.Nat.{_+_, _<_, _≤_};
 ghost use lib.IntN.{pos, negℤ, subℕ, _+ℤ_, _-ℤ_, _*ℤ_};
 ghost use lib.Signed.{quotZ};
 ghost use Rattle.arithmetic.specs.Integers.{HoldsInteger, SmallInteger, Short, Computes, Negated, Less};
+use language::NEGATIVE;
+use language::POSITIVE;
 use language::Val;
-
-// The tag of an integer from 0 on.
-const POSITIVE: u32 = 0;
-
-// The tag of an integer below 0.
-const NEGATIVE: u32 = 1;
 
 // The integer n.
 pub fn positive(n: u64) -> Val

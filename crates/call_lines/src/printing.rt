@@ -51,7 +51,7 @@ pub fn print_answer(out: &mut [u8], a: Answer, text: &[u8]) -> usize
     ensures { λ r. ⌜ Printed (shownAs a (now (text .entry))) 16451 (now (out .entry)) 0 r (now (out .exit)) ⌝ }
 {
     let at = print_numbers(out, a);
-    if a.number != 20 {
+    if a.number != language::DONE {
         return at;
     }
     let n = a.length as usize;

@@ -4,7 +4,7 @@ use mathlib.Core.Path.{_≡_}
 use mathlib.Core.List.{List}
 use lib.IntN.{pos, negsuc}
 use lib.ListN.{getD, length}
-use Rattle.language.specs.Numbers.{half, one}
+use Rattle.language.specs.Numbers.{half, one, cellLimit, cellTableSize}
 use Rattle.language.specs.Objects.{Obj, int, symbol, seq, Objs, nil, _::_, lengthOf}
 use Rattle.language.specs.Accepted.{IsSymbol}
 use Rattle.packing.specs.Packing.{packed}
@@ -42,7 +42,7 @@ free C m = length C / 4 - m .cells
 -- the table has the cells that the meter holds
 pub record Room (C : List ℕ) (m : Meter) : Type 0 where
   pub fits : m .cells * 4 ≤ length C
-  pub small : length C ≤ 16384
+  pub small : length C ≤ cellTableSize cellLimit
 
 -- C with cell p made: the value v, and then the place that `next` leads to
 abbrev pub cellPut : List ℕ → ℕ → Val → ℕ → List ℕ

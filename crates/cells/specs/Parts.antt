@@ -3,6 +3,7 @@ use Prim.Native.Nat.{ℕ, zero, suc, _+_, _-_, _*_, _/_, _%_, _≤_, _<_}
 use mathlib.Core.Path.{_≡_}
 use mathlib.Core.List.{List, [], _∷_}
 use lib.ListN.{length}
+use Rattle.language.specs.Numbers.{cellLimit}
 use Rattle.language.specs.Objects.{Obj, seq, Objs, nil, _::_, lengthOf, nthObj}
 use Rattle.language.specs.declared.Val.{Val}
 use Rattle.cells.specs.Cells.{Rep, Same, valAt, nextAt, sequenceVal, cellPut}
@@ -48,10 +49,10 @@ pub record Paired (C : List ℕ) (p : ℕ) (a b r : Val) (C′ : List ℕ) : Typ
 
 -- The ring of 4,096 waiting values: place i is at i modulo 4,096.
 abbrev pub heldAt : List ℕ → ℕ → Val
-heldAt W i = valAt W (i % 4096)
+heldAt W i = valAt W (i % cellLimit)
 
 abbrev pub holdAt : List ℕ → ℕ → Val → List ℕ
-holdAt W i v = cellPut W (i % 4096) v 0
+holdAt W i v = cellPut W (i % cellLimit) v 0
 
 -- the objects, last first, before the rest
 unfoldable pub onto : List Obj → Objs → Objs

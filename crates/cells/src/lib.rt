@@ -5,19 +5,8 @@ ghost use lib.Dec.{eqb};
 ghost use Rattle.cells.specs.Cells.{valAt, nextAt, sequenceVal, cellPut, free};
 ghost use Rattle.cells.specs.Parts.{firstOf, Sized, Headed, Tailed, Nth, Paired, heldAt, holdAt, Gathered};
 use language::Meter;
+use language::SEQUENCE;
 use language::Val;
-
-// The tag of an integer from 0 on.
-pub const POSITIVE: u32 = 0;
-
-// The tag of an integer below 0.
-pub const NEGATIVE: u32 = 1;
-
-// The tag of a symbol.
-pub const SYMBOL: u32 = 2;
-
-// The tag of a sequence.
-pub const SEQUENCE: u32 = 3;
 
 // How many values may wait.
 const PLACES: usize = 4096;

@@ -23,7 +23,7 @@ pub fn same(c: &[u32], a: Val, b: Val, m: Meter) -> Compared
     if a.tag != b.tag {
         return Compared::Differ(k);
     }
-    if a.tag == cells::SEQUENCE {
+    if a.tag == language::SEQUENCE {
         return places(c, a, b, k);
     }
     if a.word != b.word {

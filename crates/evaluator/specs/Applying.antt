@@ -7,7 +7,7 @@ use lib.ListN.{length, getD}
 use Rattle.language.specs.Objects.{Obj, seq, Objs, nil, _::_, lengthOf, truthOf, isT, isF, nthObj}
 use Rattle.language.specs.Forms.{Form, Forms, Prog, count, mainForm, select, selectRight}
 use Rattle.language.specs.Bytes.{bytes}
-use Rattle.language.specs.Numbers.{one}
+use Rattle.language.specs.Numbers.{one, cellLimit, cellTableSize, formTableSize}
 use Rattle.language.specs.Meanings.{pair}
 use Rattle.language.specs.Evaluation.{Out, bottom, bind, Apply, apply, lookup, askName, askCells, chainBy, constructBy, gathered, applyAllOn, insertOn, whileBy, decide}
 use Rattle.language.specs.Accepted.{IsName}
@@ -51,7 +51,7 @@ pub record Given (F : List ℕ) (S : Setting) (k : ℕ) (C W : List ℕ) (m : Me
   pub still : Same (S .cells) C (S .few)
   pub low : S .few ≤ free C m
   pub room : Room C m
-  pub ring : length W ≡ 16384
+  pub ring : length W ≡ cellTableSize cellLimit
   pub fuel : m .steps ≤ k
   pub arg : Rep C (free C m) v x
 
@@ -190,12 +190,12 @@ pub record Collected (C W : List ℕ) (top q : ℕ) (n : Meter) (r : Ended) (C�
 pub record Spread (C W : List ℕ) (top k : ℕ) (v r : Val) (W′ : List ℕ) : Type 0 where
   pub last : Nth C v k r
   pub long : length W′ ≡ length W
-  pub held : (n : ℕ) (xs : Objs) → n < 4294967296 → k < lengthOf xs → Rep C n v (seq xs) → length W ≡ 16384 → (j : ℕ) → j < k → k ≤ j + 4096 → Rep C n (heldAt W′ (top + j)) (nthObj xs j)
-  pub others : (d : ℕ) → 1 ≤ d → d + k ≤ 4096 → heldAt W′ (top + (4096 - d)) ≡ heldAt W (top + (4096 - d))
+  pub held : (n : ℕ) (xs : Objs) → n < 4294967296 → k < lengthOf xs → Rep C n v (seq xs) → length W ≡ cellTableSize cellLimit → (j : ℕ) → j < k → k ≤ j + cellLimit → Rep C n (heldAt W′ (top + j)) (nthObj xs j)
+  pub others : (d : ℕ) → 1 ≤ d → d + k ≤ cellLimit → heldAt W′ (top + (cellLimit - d)) ≡ heldAt W (top + (cellLimit - d))
 
 -- T holds the first 8,192 numbers of F, and 0 past its end
 pub record FormsCopied (F T : List ℕ) : Type 0 where
-  pub same : (j : ℕ) → j < 8192 → getD T j 0 ≡ getD F j 0
+  pub same : (j : ℕ) → j < formTableSize → getD T j 0 ≡ getD F j 0
 
 -- A whole run: main, whose body's record and one is d, by the definition with the steps as its fuel.
 pub record Ran (F C : List ℕ) (d : ℕ) (v : Val) (m : Meter) (r : Ended) (C′ : List ℕ) : Type 0 where

@@ -3,6 +3,7 @@ use Prim.Native.Nat.{ℕ, _+_, _-_, _≤_}
 use mathlib.Core.Path.{_≡_}
 use mathlib.Core.List.{List}
 use lib.ListN.{length}
+use Rattle.language.specs.Numbers.{cellLimit, cellTableSize}
 use Rattle.language.specs.Objects.{Obj}
 use Rattle.language.specs.Evaluation.{Out, value, bottom, spent, Spent}
 use Rattle.language.specs.Answers.{spentNumber}
@@ -16,14 +17,14 @@ use Rattle.primitives.specs.Ends.{Made, Agree}
 -- A waiting value at a distance d below the top is kept, unless with the cells that were made, a less b, it is more than 4,096:
 -- then the construction or insert that it waits for can't complete.
 pub record RingKept (W W′ : List ℕ) (top a b : ℕ) : Type 0 where
-  pub keep : (d : ℕ) → 1 ≤ d → d + a ≤ 4096 + b → heldAt W′ (top + (4096 - d)) ≡ heldAt W (top + (4096 - d))
+  pub keep : (d : ℕ) → 1 ≤ d → d + a ≤ cellLimit + b → heldAt W′ (top + (cellLimit - d)) ≡ heldAt W (top + (cellLimit - d))
 
 -- a value: the cells and the waiting values that were there are kept
 pub record Finished (C W : List ℕ) (top : ℕ) (m : Meter) (e : Out Obj) (v : Val) (m′ : Meter) (C′ W′ : List ℕ) : Type 0 where
   pub obj : Obj
   pub is : e ≡ value obj m′
   pub made : Made C m obj v m′ C′
-  pub ring : length W′ ≡ 16384
+  pub ring : length W′ ≡ cellTableSize cellLimit
   pub kept : RingKept W W′ top (m .cells) (m′ .cells)
 
 -- bottom or a spent budget, with the same steps and cells left

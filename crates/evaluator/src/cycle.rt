@@ -10,10 +10,12 @@ use crate::records::kind;
 use crate::records::low;
 use crate::records::next;
 use crate::waiting::Asked;
+use crate::waiting::RING_SIZE;
 use crate::waiting::collect;
 use crate::waiting::place;
 use crate::waiting::spread;
 use language::Charge;
+use language::FORM_TABLE_SIZE;
 use language::Meter;
 use language::Val;
 use primitives::Ended;
@@ -22,9 +24,9 @@ use primitives::truth_of;
 // One application of the form at i to v. A value lent as two numbers and a meter lent as three take less of the stack, and so
 // does an answer that is taken apart at once.
 pub fn apply(
-    f: &[u32; 8192],
+    f: &[u32; FORM_TABLE_SIZE],
     c: &mut [u32],
-    w: &mut [u32; 16384],
+    w: &mut [u32; RING_SIZE],
     top: u32,
     i: u32,
     v: Val,
@@ -40,9 +42,9 @@ pub fn apply(
 
 // One application of the form at i, by its kind.
 pub fn step(
-    f: &[u32; 8192],
+    f: &[u32; FORM_TABLE_SIZE],
     c: &mut [u32],
-    w: &mut [u32; 16384],
+    w: &mut [u32; RING_SIZE],
     top: u32,
     i: u32,
     tag: u32,
@@ -63,30 +65,30 @@ pub fn step(
         cells: cells,
     };
     let k = match m.charge_step() {
-        Charge::Spent(k) => return Ended::Stop(22, k),
+        Charge::Spent(k) => return Ended::Stop(language::STEPS_SPENT, k),
         Charge::Granted(k) => k,
     };
     let h = inner(i);
     let shape = kind(f, i);
     match shape {
-        1 => leaf(f, c, 1, i, v, k),
-        4 => name(f, c, w, top, arity(f, i), v, k),
-        5 => chain(f, c, w, top, low(f, i), v, k),
-        6 => construct(f, c, w, top, h, arity(f, i), v, k),
-        7 => insert(f, c, w, top, h, v, k),
-        8 => each(f, c, w, top, h, v, k),
-        9 => condition(f, c, w, top, h, v, k),
-        10 => repeat(f, c, w, top, h, v, k),
-        16 => bu(f, c, w, top, h, constant(f, i), v, k),
+        formtable::WORD => leaf(f, c, formtable::WORD, i, v, k),
+        formtable::NAME => name(f, c, w, top, arity(f, i), v, k),
+        formtable::CHAIN => chain(f, c, w, top, low(f, i), v, k),
+        formtable::CONSTRUCT => construct(f, c, w, top, h, arity(f, i), v, k),
+        formtable::INSERT => insert(f, c, w, top, h, v, k),
+        formtable::APPLY_ALL => each(f, c, w, top, h, v, k),
+        formtable::CONDITION => condition(f, c, w, top, h, v, k),
+        formtable::WHILE => repeat(f, c, w, top, h, v, k),
+        formtable::BU => bu(f, c, w, top, h, constant(f, i), v, k),
         _ => leaf(f, c, shape, i, v, k),
     }
 }
 
 // The parts of a chain whose last part is the record `last`, the last first.
 pub fn chain(
-    f: &[u32; 8192],
+    f: &[u32; FORM_TABLE_SIZE],
     c: &mut [u32],
-    w: &mut [u32; 16384],
+    w: &mut [u32; RING_SIZE],
     top: u32,
     last: u32,
     v: Val,
@@ -112,9 +114,9 @@ pub fn chain(
 
 // One application of the form at i, whose value then waits at top.
 pub fn slot(
-    f: &[u32; 8192],
+    f: &[u32; FORM_TABLE_SIZE],
     c: &mut [u32],
-    w: &mut [u32; 16384],
+    w: &mut [u32; RING_SIZE],
     top: u32,
     i: u32,
     v: Val,
@@ -133,9 +135,9 @@ pub fn slot(
 
 // The many parts of a construction from the one at h on, the first first; then a cell for each.
 pub fn construct(
-    f: &[u32; 8192],
+    f: &[u32; FORM_TABLE_SIZE],
     c: &mut [u32],
-    w: &mut [u32; 16384],
+    w: &mut [u32; RING_SIZE],
     top: u32,
     h: u32,
     many: u32,
@@ -161,9 +163,9 @@ pub fn construct(
 
 // The form at g on each place of v, from left to right; then a cell for each.
 pub fn each(
-    f: &[u32; 8192],
+    f: &[u32; FORM_TABLE_SIZE],
     c: &mut [u32],
-    w: &mut [u32; 16384],
+    w: &mut [u32; RING_SIZE],
     top: u32,
     g: u32,
     v: Val,
@@ -171,8 +173,8 @@ pub fn each(
 ) -> Ended
     ensures { λ r. ⌜ Mapped (now (f .entry)) (now (c .entry)) (now (w .entry)) top g v m r (now (c .exit)) (now (w .exit)) ⌝ }
 {
-    if v.tag != 3 {
-        return Ended::Stop(21, m);
+    if v.tag != language::SEQUENCE {
+        return Ended::Stop(language::BOTTOM, m);
     }
     let many = cells::size(v);
     let mut s = v;
@@ -193,9 +195,9 @@ pub fn each(
 
 // The form at g on the pair of the value that waits at top and v.
 pub fn fold(
-    f: &[u32; 8192],
+    f: &[u32; FORM_TABLE_SIZE],
     c: &mut [u32],
-    w: &mut [u32; 16384],
+    w: &mut [u32; RING_SIZE],
     top: u32,
     g: u32,
     v: Val,
@@ -205,7 +207,7 @@ pub fn fold(
 {
     let p = cells::free_cell(c, m);
     match m.charge_cells(2) {
-        Charge::Spent(k) => Ended::Stop(24, k),
+        Charge::Spent(k) => Ended::Stop(language::CELLS_SPENT, k),
         Charge::Granted(k) => {
             let x = cells::held(w, top as usize);
             let y = cells::pair(c, p, x, v);
@@ -216,9 +218,9 @@ pub fn fold(
 
 // The form at g between the `many` values that wait from top on and v, from the right.
 pub fn between(
-    f: &[u32; 8192],
+    f: &[u32; FORM_TABLE_SIZE],
     c: &mut [u32],
-    w: &mut [u32; 16384],
+    w: &mut [u32; RING_SIZE],
     top: u32,
     g: u32,
     many: u32,
@@ -246,9 +248,9 @@ pub fn between(
 
 // The form at g between the places of v, from the right. All but the last wait.
 pub fn insert(
-    f: &[u32; 8192],
+    f: &[u32; FORM_TABLE_SIZE],
     c: &mut [u32],
-    w: &mut [u32; 16384],
+    w: &mut [u32; RING_SIZE],
     top: u32,
     g: u32,
     v: Val,
@@ -256,12 +258,12 @@ pub fn insert(
 ) -> Ended
     ensures { λ r. ⌜ Inserted (now (f .entry)) (now (c .entry)) (now (w .entry)) top g v m r (now (c .exit)) (now (w .exit)) ⌝ }
 {
-    if v.tag != 3 {
-        return Ended::Stop(21, m);
+    if v.tag != language::SEQUENCE {
+        return Ended::Stop(language::BOTTOM, m);
     }
     let many = cells::size(v);
     if many == 0 {
-        return Ended::Stop(21, m);
+        return Ended::Stop(language::BOTTOM, m);
     }
     let y = spread(c, w, top, many - 1, v);
     between(f, c, w, top, g, many - 1, y, m)
@@ -269,9 +271,9 @@ pub fn insert(
 
 // The question at h on v, and what its value says.
 pub fn ask(
-    f: &[u32; 8192],
+    f: &[u32; FORM_TABLE_SIZE],
     c: &mut [u32],
-    w: &mut [u32; 16384],
+    w: &mut [u32; RING_SIZE],
     top: u32,
     h: u32,
     v: Val,
@@ -289,16 +291,16 @@ pub fn ask(
             if b == 0 {
                 return Asked::Says(0, k);
             }
-            Asked::Stop(21, k)
+            Asked::Stop(language::BOTTOM, k)
         }
     }
 }
 
 // A while: the form behind the question at h again, as long as the question says T.
 pub fn repeat(
-    f: &[u32; 8192],
+    f: &[u32; FORM_TABLE_SIZE],
     c: &mut [u32],
-    w: &mut [u32; 16384],
+    w: &mut [u32; RING_SIZE],
     top: u32,
     h: u32,
     v: Val,
@@ -330,9 +332,9 @@ pub fn repeat(
 
 // The form at g on the pair of the constant a and v.
 pub fn bu(
-    f: &[u32; 8192],
+    f: &[u32; FORM_TABLE_SIZE],
     c: &mut [u32],
-    w: &mut [u32; 16384],
+    w: &mut [u32; RING_SIZE],
     top: u32,
     g: u32,
     a: Val,
@@ -343,7 +345,7 @@ pub fn bu(
 {
     let p = cells::free_cell(c, m);
     match m.charge_cells(2) {
-        Charge::Spent(k) => Ended::Stop(24, k),
+        Charge::Spent(k) => Ended::Stop(language::CELLS_SPENT, k),
         Charge::Granted(k) => {
             let y = cells::pair(c, p, a, v);
             apply(f, c, w, top, g, y, k)
@@ -353,9 +355,9 @@ pub fn bu(
 
 // A condition: the question at h, then the first form behind it on T, the second on F.
 pub fn condition(
-    f: &[u32; 8192],
+    f: &[u32; FORM_TABLE_SIZE],
     c: &mut [u32],
-    w: &mut [u32; 16384],
+    w: &mut [u32; RING_SIZE],
     top: u32,
     h: u32,
     v: Val,
@@ -371,9 +373,9 @@ pub fn condition(
 
 // The body of a name, whose record and one is d, with one more name open; 0 if it is undefined.
 pub fn name(
-    f: &[u32; 8192],
+    f: &[u32; FORM_TABLE_SIZE],
     c: &mut [u32],
-    w: &mut [u32; 16384],
+    w: &mut [u32; RING_SIZE],
     top: u32,
     d: u32,
     v: Val,
@@ -382,10 +384,10 @@ pub fn name(
     ensures { λ r. ⌜ NameApplied (now (f .entry)) (now (c .entry)) (now (w .entry)) top d v m r (now (c .exit)) (now (w .exit)) ⌝ }
 {
     if d == 0 {
-        return Ended::Stop(21, m);
+        return Ended::Stop(language::BOTTOM, m);
     }
     match m.open_name() {
-        Charge::Spent(k) => Ended::Stop(23, k),
+        Charge::Spent(k) => Ended::Stop(language::NAMES_SPENT, k),
         Charge::Granted(k) => match apply(f, c, w, top, d - 1, v, k) {
             Ended::Stop(a, l) => Ended::Stop(a, l),
             Ended::Done(y, l) => {

@@ -3,7 +3,9 @@ ghost use mathlib.Core.Path.{_≡_};
 ghost use lib.ListN.{length};
 ghost use Rattle.evaluator.specs.Applying.{Ran, FormsCopied};
 use crate::cycle::name;
+use crate::waiting::RING_SIZE;
 use language::Charge;
+use language::FORM_TABLE_SIZE;
 use language::Meter;
 use language::Val;
 use primitives::Ended;
@@ -13,7 +15,7 @@ pub fn evaluate(forms: &[u32], c: &mut [u32], root: u32, v: Val, m: Meter) -> En
     ensures { λ r. ⌜ Ran (now (forms .entry)) (now (c .entry)) root v m r (now (c .exit)) ⌝ }
 {
     let k = match m.charge_step() {
-        Charge::Spent(k) => return Ended::Stop(22, k),
+        Charge::Spent(k) => return Ended::Stop(language::STEPS_SPENT, k),
         Charge::Granted(k) => k,
     };
     let f = copied(forms);
@@ -22,12 +24,12 @@ pub fn evaluate(forms: &[u32], c: &mut [u32], root: u32, v: Val, m: Meter) -> En
 }
 
 // The first 8,192 numbers of the forms; past their end 0.
-fn copied(forms: &[u32]) -> [u32; 8192]
+fn copied(forms: &[u32]) -> [u32; FORM_TABLE_SIZE]
     ensures { λ r. ⌜ FormsCopied (now (forms .entry)) r ⌝ }
 {
     let mut f = empty();
     let mut i: usize = 0;
-    while i < 8192 {
+    while i < FORM_TABLE_SIZE {
         f[i] = tables::at(forms, i);
         i += 1;
     }
@@ -35,15 +37,15 @@ fn copied(forms: &[u32]) -> [u32; 8192]
 }
 
 // A table of 8,192 numbers.
-fn empty() -> [u32; 8192]
+fn empty() -> [u32; FORM_TABLE_SIZE]
     ensures { λ r. ⌜ length r ≡ 8192 ⌝ }
 {
-    [0; 8192]
+    [0; FORM_TABLE_SIZE]
 }
 
 // A ring of 4,096 places.
-fn ring() -> [u32; 16384]
+fn ring() -> [u32; RING_SIZE]
     ensures { λ r. ⌜ length r ≡ 16384 ⌝ }
 {
-    [0; 16384]
+    [0; RING_SIZE]
 }

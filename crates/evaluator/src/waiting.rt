@@ -7,6 +7,12 @@ use language::Meter;
 use language::Val;
 use primitives::Ended;
 
+// How many values may wait.
+const PLACES: u64 = 4096;
+
+// The numbers of the ring, four to each place.
+pub const RING_SIZE: usize = 16384;
+
 // What a question says, 1 for T and 0 for F, or that the run stops; and what is left of the budgets.
 pub enum Asked {
     Says(u32, Meter),
@@ -17,16 +23,16 @@ pub enum Asked {
 pub fn place(top: u32, q: u32) -> u32
     ensures { λ r. ⌜ r ≡ (top + q) % 4096 ⌝ }
 {
-    ((top as u64 + q as u64) % 4096) as u32
+    ((top as u64 + q as u64) % PLACES) as u32
 }
 
 // The sequence of the many values that wait from top on, with a cell for each.
-pub fn collect(c: &mut [u32], w: &[u32; 16384], top: u32, many: u32, m: Meter) -> Ended
+pub fn collect(c: &mut [u32], w: &[u32; RING_SIZE], top: u32, many: u32, m: Meter) -> Ended
     ensures { λ r. ⌜ Collected (now (c .entry)) (now (w .entry)) top many m r (now (c .exit)) ⌝ }
 {
     let p = cells::free_cell(c, m);
     match m.charge_cells(many) {
-        Charge::Spent(k) => Ended::Stop(24, k),
+        Charge::Spent(k) => Ended::Stop(language::CELLS_SPENT, k),
         Charge::Granted(k) => {
             let v = cells::gather(c, w, top, many, p);
             Ended::Done(v, k)
@@ -35,7 +41,7 @@ pub fn collect(c: &mut [u32], w: &[u32; 16384], top: u32, many: u32, m: Meter) -
 }
 
 // Lets the first `many` places of v wait from top on, and gives the place behind them.
-pub fn spread(c: &[u32], w: &mut [u32; 16384], top: u32, many: u32, v: Val) -> Val
+pub fn spread(c: &[u32], w: &mut [u32; RING_SIZE], top: u32, many: u32, v: Val) -> Val
     ensures { λ r. ⌜ Spread (now (c .entry)) (now (w .entry)) top many v r (now (w .exit)) ⌝ }
 {
     let mut s = v;

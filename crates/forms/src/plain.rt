@@ -40,7 +40,7 @@ pub fn put_bu(t: &mut [u32], n: usize, m: usize, v: Val, next: usize, c: u32) ->
     tables::put_record(
         t,
         n,
-        16 + v.tag,
+        formtable::BU + v.tag,
         1,
         (word % 4294967296) as u32,
         (word / 4294967296) as u32,
@@ -59,10 +59,17 @@ pub fn read_plain(s: &[u8], p: usize, t: &mut [u32], n: usize, c: u32) -> FormRe
 {
     let size = lexer::size_at(s, p);
     match lexer::judge_part(s, p, size) {
-        PartJudged::Primitive(code) => put_plain(t, n, 1, code as u64, p + size, c),
-        PartJudged::Select(k) => put_plain(t, n, 2, k as u64, p + size, c),
-        PartJudged::SelectRight(k) => put_plain(t, n, 3, k as u64, p + size, c),
-        PartJudged::Name(word) => put_plain(t, n, 4, word, p + size, c),
+        PartJudged::Primitive(code) => put_plain(t, n, formtable::WORD, code as u64, p + size, c),
+        PartJudged::Select(k) => put_plain(t, n, formtable::SELECT, k as u64, p + size, c),
+        PartJudged::SelectRight(k) => put_plain(
+            t,
+            n,
+            formtable::SELECT_RIGHT,
+            k as u64,
+            p + size,
+            c,
+        ),
+        PartJudged::Name(word) => put_plain(t, n, formtable::NAME, word, p + size, c),
         PartJudged::Not(number) => FormRead::No(number, p),
     }
 }
@@ -82,7 +89,14 @@ pub fn read_constant(
 {
     match objects::read_object(s, at, room, u, c) {
         ObjectRead::No(number, place) => FormRead::No(number, place),
-        ObjectRead::Got(v, next, d) => put_plain(t, n, 12 + v.tag, v.word, next, d),
+        ObjectRead::Got(v, next, d) => put_plain(
+            t,
+            n,
+            formtable::CONSTANT + v.tag,
+            v.word,
+            next,
+            d,
+        ),
     }
 }
 

@@ -59,7 +59,7 @@ fn read_chain(
     match read_parts(s, at, room, t, m + 1, u, c) {
         FormsRead::No(number, place) => FormRead::No(number, place),
         FormsRead::Got(x, count) => {
-            tables::put_record(t, n, 5, count + 1, 0, 0);
+            tables::put_record(t, n, formtable::CHAIN, count + 1, 0, 0);
             FormRead::Got(x)
         }
     }
@@ -117,13 +117,13 @@ fn read_part(
         return plain::read_plain(s, p, t, n, c);
     }
     if room == 0 {
-        return FormRead::No(7, p);
+        return FormRead::No(language::OPEN_MARKS, p);
     }
     match b {
         b'[' => read_construct(s, p + 1, room - 1, t, n, u, c),
         b'%' => plain::read_constant(s, p + 1, room - 1, t, n, u, c),
-        b'/' => read_prefix(7, s, p + 1, room - 1, t, n, u, c),
-        b'@' => read_prefix(8, s, p + 1, room - 1, t, n, u, c),
+        b'/' => read_prefix(formtable::INSERT, s, p + 1, room - 1, t, n, u, c),
+        b'@' => read_prefix(formtable::APPLY_ALL, s, p + 1, room - 1, t, n, u, c),
         b'{' => read_bu(s, p + 1, room - 1, t, n, u, c),
         _ => read_round(s, p + 1, room - 1, t, n, u, c),
     }
@@ -145,7 +145,7 @@ fn read_construct(
     match read_forms(s, at, room, t, n + 1, u, c) {
         FormsRead::No(number, place) => FormRead::No(number, place),
         FormsRead::Got(x, count) => {
-            tables::put_record(t, n, 6, count, 0, 0);
+            tables::put_record(t, n, formtable::CONSTRUCT, count, 0, 0);
             FormRead::Got(x)
         }
     }
@@ -321,7 +321,7 @@ fn read_while(
     match read_closed(s, at, room, t, m + 1, u, c) {
         FormRead::No(number, place) => FormRead::No(number, place),
         FormRead::Got(x) => {
-            tables::put_record(t, n, 10, 2, 0, 0);
+            tables::put_record(t, n, formtable::WHILE, 2, 0, 0);
             FormRead::Got(x)
         }
     }
@@ -345,7 +345,7 @@ fn read_condition(
     match read_branches(s, at, room, t, m + 1, u, c) {
         FormRead::No(number, place) => FormRead::No(number, place),
         FormRead::Got(x) => {
-            tables::put_record(t, n, 9, 3, 0, 0);
+            tables::put_record(t, n, formtable::CONDITION, 3, 0, 0);
             FormRead::Got(x)
         }
     }

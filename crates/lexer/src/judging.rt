@@ -13,6 +13,7 @@ use super::Class;
 use super::NameJudged;
 use super::PartJudged;
 use super::classes;
+use super::codes;
 use super::numbers;
 use super::reader;
 use super::vocabulary;
@@ -23,11 +24,11 @@ fn judge_word(s: &[u8], from: usize, to: usize, class: Class) -> u32
     requires { ⌜ (from ≤ to) × (to ≤ length (now s)) ⌝ }
     ensures { λ r. ⌜ WordJudged (judgeWord (testOf class) (slice from to (now (s .entry)))) (slice from to (now (s .entry))) r ⌝ }
 {
-    if 12 < to - from {
-        return 9;
+    if language::WORD_LIMIT < to - from {
+        return language::LONG_WORD;
     }
     if reader::span_end(s, from, to, class) < to {
-        return 6;
+        return language::NOT_IN_GRAMMAR;
     }
     0
 }
@@ -49,16 +50,19 @@ fn judge_integer(s: &[u8], from: usize, to: usize) -> AtomJudged
     ensures { λ r. ⌜ r ≡ atomJudged (judgeInteger (slice from to (now (s .entry)))) ⌝ }
 {
     if reader::span_end(s, from, to, Class::Digit) < to {
-        return AtomJudged::Not(6);
+        return AtomJudged::Not(language::NOT_IN_GRAMMAR);
     }
     if has_leading_zero(s, from, to) {
-        return AtomJudged::Not(8);
+        return AtomJudged::Not(language::BAD_NUMBER);
     }
     let v = numbers::value(s, from, to);
-    if 2147483647 < v {
-        return AtomJudged::Not(8);
+    if language::LARGEST < v {
+        return AtomJudged::Not(language::BAD_NUMBER);
     }
-    AtomJudged::Is(Val { tag: 0, word: v })
+    AtomJudged::Is(Val {
+        tag: language::POSITIVE,
+        word: v,
+    })
 }
 
 // A number's digits behind a minus.
@@ -67,20 +71,20 @@ fn judge_negative(s: &[u8], from: usize, to: usize) -> AtomJudged
     ensures { λ r. ⌜ r ≡ atomJudged (judgeNegative (slice from to (now (s .entry)))) ⌝ }
 {
     if from == to {
-        return AtomJudged::Not(6);
+        return AtomJudged::Not(language::NOT_IN_GRAMMAR);
     }
     if reader::span_end(s, from, to, Class::Digit) < to {
-        return AtomJudged::Not(6);
+        return AtomJudged::Not(language::NOT_IN_GRAMMAR);
     }
     if s[from] == b'0' {
-        return AtomJudged::Not(8);
+        return AtomJudged::Not(language::BAD_NUMBER);
     }
     let v = numbers::value(s, from, to);
-    if 2147483648 < v {
-        return AtomJudged::Not(8);
+    if language::HALF < v {
+        return AtomJudged::Not(language::BAD_NUMBER);
     }
     AtomJudged::Is(Val {
-        tag: 1,
+        tag: language::NEGATIVE,
         word: v - 1,
     })
 }
@@ -95,7 +99,10 @@ fn judge_symbol(s: &[u8], from: usize, to: usize) -> AtomJudged
         return AtomJudged::Not(refused);
     }
     let word = packing::pack(s, from, to);
-    AtomJudged::Is(Val { tag: 2, word })
+    AtomJudged::Is(Val {
+        tag: language::SYMBOL,
+        word,
+    })
 }
 
 // The n bytes at p, where an object may stand.
@@ -104,7 +111,7 @@ pub fn judge_atom(s: &[u8], p: usize, n: usize) -> AtomJudged
     ensures { λ r. ⌜ r ≡ atomJudged (judgeAtom (slice p (p + n) (now (s .entry)))) ⌝ }
 {
     if n == 0 {
-        return AtomJudged::Not(6);
+        return AtomJudged::Not(language::NOT_IN_GRAMMAR);
     }
     let b = s[p];
     if classes::is_digit(b) {
@@ -114,7 +121,7 @@ pub fn judge_atom(s: &[u8], p: usize, n: usize) -> AtomJudged
         return judge_symbol(s, p, p + n);
     }
     if b != b'-' {
-        return AtomJudged::Not(6);
+        return AtomJudged::Not(language::NOT_IN_GRAMMAR);
     }
     judge_negative(s, p + 1, p + n)
 }
@@ -130,7 +137,7 @@ fn is_selector(s: &[u8], from: usize, to: usize) -> bool
     if s[from] == b'0' {
         return false;
     }
-    numbers::value(s, from, to) <= 255
+    numbers::value(s, from, to) <= language::SELECTOR_LIMIT
 }
 
 // Whether an `r` and nothing more stands there.
@@ -152,15 +159,15 @@ fn judge_selector(s: &[u8], from: usize, to: usize) -> PartJudged
     let end = reader::span_end(s, from, to, Class::Digit);
     if end == to {
         if !is_selector(s, from, end) {
-            return PartJudged::Not(8);
+            return PartJudged::Not(language::BAD_NUMBER);
         }
         return PartJudged::Select(numbers::value(s, from, end) as u32);
     }
     if !is_r(s, end, to) {
-        return PartJudged::Not(6);
+        return PartJudged::Not(language::NOT_IN_GRAMMAR);
     }
     if !is_selector(s, from, end) {
-        return PartJudged::Not(8);
+        return PartJudged::Not(language::BAD_NUMBER);
     }
     PartJudged::SelectRight(numbers::value(s, from, end) as u32)
 }
@@ -175,7 +182,7 @@ fn judge_plain(s: &[u8], from: usize, to: usize) -> PartJudged
         return PartJudged::Not(refused);
     }
     let code = vocabulary::find_word(s, from, to);
-    if code < 23 {
+    if code < codes::NO_WORD {
         return PartJudged::Primitive(code);
     }
     PartJudged::Name(packing::pack(s, from, to))
@@ -187,7 +194,7 @@ pub fn judge_part(s: &[u8], p: usize, n: usize) -> PartJudged
     ensures { λ r. ⌜ r ≡ partJudged (judgePart (slice p (p + n) (now (s .entry)))) ⌝ }
 {
     if n == 0 {
-        return PartJudged::Not(6);
+        return PartJudged::Not(language::NOT_IN_GRAMMAR);
     }
     let b = s[p];
     if classes::is_digit(b) {
@@ -196,7 +203,7 @@ pub fn judge_part(s: &[u8], p: usize, n: usize) -> PartJudged
     if classes::is_letter(b) {
         return judge_plain(s, p, p + n);
     }
-    PartJudged::Not(6)
+    PartJudged::Not(language::NOT_IN_GRAMMAR)
 }
 
 // The n bytes at p, where a defined name may stand.
@@ -205,17 +212,17 @@ pub fn judge_name(s: &[u8], p: usize, n: usize) -> NameJudged
     ensures { λ r. ⌜ r ≡ nameJudged (judgeName (slice p (p + n) (now (s .entry)))) ⌝ }
 {
     if n == 0 {
-        return NameJudged::Not(6);
+        return NameJudged::Not(language::NOT_IN_GRAMMAR);
     }
     if !classes::is_letter(s[p]) {
-        return NameJudged::Not(6);
+        return NameJudged::Not(language::NOT_IN_GRAMMAR);
     }
     let refused = judge_word(s, p, p + n, Class::Name);
     if refused != 0 {
         return NameJudged::Not(refused);
     }
-    if vocabulary::find_word(s, p, p + n) < 23 {
-        return NameJudged::Not(6);
+    if vocabulary::find_word(s, p, p + n) < codes::NO_WORD {
+        return NameJudged::Not(language::NOT_IN_GRAMMAR);
     }
     NameJudged::Is(packing::pack(s, p, p + n))
 }
@@ -225,10 +232,10 @@ pub fn refusal(s: &[u8], p: usize) -> u32
     ensures { λ r. ⌜ r ≡ refusalOf (wordAt (now (s .entry)) p) ⌝ }
 {
     if !classes::is_letter(classes::byte_at(s, p)) {
-        return 6;
+        return language::NOT_IN_GRAMMAR;
     }
-    if 12 < reader::size_at(s, p) {
-        return 9;
+    if language::WORD_LIMIT < reader::size_at(s, p) {
+        return language::LONG_WORD;
     }
-    6
+    language::NOT_IN_GRAMMAR
 }

@@ -12,6 +12,9 @@ fn digit(b: u8) -> u64
     if b'0' <= b { (b - b'0') as u64 } else { 0 }
 }
 
+// The value given for all that no integer has the size of.
+const PAST: u64 = 2147483649;
+
 // The value of the digits from `from` up to `to`, or 2,147,483,649 if it is that or more.
 pub fn value(s: &[u8], from: usize, to: usize) -> u64
     requires { ⌜ (from ≤ to) × (to ≤ length (now s)) ⌝ }
@@ -21,8 +24,8 @@ pub fn value(s: &[u8], from: usize, to: usize) -> u64
     let mut i = from;
     while i < to {
         v = v * 10 + digit(s[i]);
-        if 2147483648 < v {
-            return 2147483649;
+        if language::HALF < v {
+            return PAST;
         }
         i += 1;
     }

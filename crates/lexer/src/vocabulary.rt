@@ -7,6 +7,7 @@ ghost use Rattle.language.specs.Bytes.{sameBytes};
 ghost use Rattle.language.specs.Words.{ops};
 ghost use Rattle.language.specs.Judging.{findOp};
 ghost use Rattle.lexer.specs.Vocabulary.{rowByte, VocabularyRows, spelledAt, ruleAt, codeOf};
+use super::codes;
 
 // For each word, in the order of the definitions: its cell rule, its length, and its letters up to the seventh place.
 const TABLE: [u8; 207] =
@@ -32,7 +33,7 @@ fn row_length(rows: &[u8; 207], code: u32) -> usize
     requires { ⌜ VocabularyRows (now rows) ⌝ }
     ensures { λ r. ⌜ (r ≡ length (spelledAt code)) × (r ≤ 7) ⌝ }
 {
-    if 22 < code {
+    if codes::TRANS < code {
         return 0;
     }
     (row_byte(rows, code, 1) - b'0') as usize
@@ -43,7 +44,7 @@ fn row_letter(rows: &[u8; 207], code: u32, i: usize) -> u8
     requires { ⌜ VocabularyRows (now rows) ⌝ }
     ensures { λ r. ⌜ r ≡ getD (spelledAt code) i 0 ⌝ }
 {
-    if 22 < code {
+    if codes::TRANS < code {
         return 0;
     }
     if row_length(rows, code) <= i {
@@ -56,7 +57,7 @@ fn row_letter(rows: &[u8; 207], code: u32, i: usize) -> u8
 pub fn cell_rule(code: u32) -> u32
     ensures { λ r. ⌜ r ≡ ruleAt code ⌝ }
 {
-    if 22 < code {
+    if codes::TRANS < code {
         return 0;
     }
     let rows = table();
@@ -103,7 +104,7 @@ fn find_row(rows: &[u8; 207], s: &[u8], from: usize, to: usize) -> u32
     ensures { λ r. ⌜ r ≡ codeOf (findOp ops (slice from to (now (s .entry)))) ⌝ }
 {
     let mut code: u32 = 0;
-    while code < 23 {
+    while code < codes::NO_WORD {
         if word_is(rows, s, from, to, code) {
             return code;
         }

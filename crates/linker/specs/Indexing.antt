@@ -4,6 +4,7 @@ use Prim.Native.Nat.{ℕ, _+_, _-_, _*_, _%_, _≤_, _<_}
 use mathlib.Core.Path.{_≡_}
 use mathlib.Core.List.{List}
 use lib.ListN.{getD, length}
+use Rattle.language.specs.Numbers.{definitionLimit}
 use Rattle.linker.specs.Roots.{rootFrom}
 
 -- the low number of a definition's name, as the index takes it
@@ -24,4 +25,4 @@ pub record Entered (D : List ℕ) (many left : ℕ) (X : List ℕ) : Type 0 wher
 
 -- the index of the first `many` definitions, where they are at most 128
 pub record Indexed (D : List ℕ) (many : ℕ) (X : List ℕ) : Type 0 where
-  pub entered : many ≤ 128 → Entered D many many X
+  pub entered : many ≤ definitionLimit → Entered D many many X

@@ -6,6 +6,7 @@ use mathlib.Core.List.{List}
 use mathlib.Core.Option.{Option, some, none}
 use lib.Dec.{ltb}
 use lib.ListN.{getD}
+use Rattle.language.specs.Numbers.{formLimit}
 use Rattle.language.specs.Objects.{Obj}
 use Rattle.language.specs.Words.{Op}
 use Rattle.language.specs.Forms.{op, select, selectRight, Form, word, name, chain, construct, constant, insert, applyAll, bu, condition, while, Forms, stop, _&_, _+&_, count}
@@ -48,7 +49,7 @@ mutual
     is-bu : {i : ℕ} {f : Form} {x : Obj} → FormAt F C n root (i + 1) f → Rep C n (constantAt F i) x → FormIs F C n root 16 i (bu f x)
 
   pub data FormAt (F C : List ℕ) (n : ℕ) (root : List ℕ → ℕ) : ℕ → Form → Type 0 where
-    form-at : {i κ : ℕ} {f : Form} → i < 2048 → linkedKindAt F i ≡ κ → FormIs F C n root κ i f → FormAt F C n root i f
+    form-at : {i κ : ℕ} {f : Form} → i < formLimit → linkedKindAt F i ≡ κ → FormIs F C n root κ i f → FormAt F C n root i f
 
   -- forms from record j on, along the links
   pub data PartsAt (F C : List ℕ) (n : ℕ) (root : List ℕ → ℕ) : ℕ → Forms → Type 0 where

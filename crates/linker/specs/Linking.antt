@@ -3,6 +3,7 @@ use Prim.Native.Nat.{ℕ, _+_, _*_, _≤_, _<_}
 use mathlib.Core.Path.{_≡_}
 use mathlib.Core.List.{List}
 use lib.ListN.{getD, length}
+use Rattle.language.specs.Numbers.{formLimit}
 use Rattle.language.specs.Objects.{Obj}
 use Rattle.language.specs.Words.{Op}
 use Rattle.language.specs.Forms.{op, select, selectRight, Form, word, name, chain, construct, constant, insert, applyAll, bu, condition, while, Forms, stop, _&_, _+&_, count}
@@ -33,8 +34,8 @@ pub data LinkedRow (F C : List ℕ) (n : ℕ) (root : List ℕ → ℕ) (i : ℕ
 mutual
   -- a form in the records from i up to e
   pub data Tree (F C : List ℕ) (n : ℕ) (root : List ℕ → ℕ) : ℕ → Form → ℕ → Type 0 where
-    tree : {i e : ℕ} {f : Form} → i < 2048 → LinkedRow F C n root i f → Kids F C n root (i + 1) (parts f) e → Tree F C n root i f e
-    tree-chain : {i e : ℕ} {fs : Forms} → i < 2048 → linkedKindAt F i ≡ 5 → Back F C n root 0 (i + 1) fs e (field F i 2) → Tree F C n root i (chain fs) e
+    tree : {i e : ℕ} {f : Form} → i < formLimit → LinkedRow F C n root i f → Kids F C n root (i + 1) (parts f) e → Tree F C n root i f e
+    tree-chain : {i e : ℕ} {fs : Forms} → i < formLimit → linkedKindAt F i ≡ 5 → Back F C n root 0 (i + 1) fs e (field F i 2) → Tree F C n root i (chain fs) e
 
   -- forms from j up to e, one behind the other, each leading to what follows it
   pub data Kids (F C : List ℕ) (n : ℕ) (root : List ℕ → ℕ) : ℕ → Forms → ℕ → Type 0 where
@@ -56,12 +57,12 @@ pub record Before (t u : List ℕ) (k : ℕ) : Type 0 where
 
 -- the links of the first q forms from `start` on turned round
 pub record Reversed (t : List ℕ) (start q : ℕ) (r : Turned) (u : List ℕ) : Type 0 where
-  pub means : (C : List ℕ) (n : ℕ) (root : List ℕ → ℕ) (gs fs : Forms) (e : ℕ) → count gs ≡ q → e ≤ 2048 → e * 4 ≤ length t → Kids t C n root start (gs +& fs) e → Back u C n root 0 start gs (r .rest) (r .last) × Kids u C n root (r .rest) fs e × Before t u (start * 4)
+  pub means : (C : List ℕ) (n : ℕ) (root : List ℕ → ℕ) (gs fs : Forms) (e : ℕ) → count gs ≡ q → e ≤ formLimit → e * 4 ≤ length t → Kids t C n root start (gs +& fs) e → Back u C n root 0 start gs (r .rest) (r .last) × Kids u C n root (r .rest) fs e × Before t u (start * 4)
 
 -- record i linked, where its parts and all that follows them are
 pub record OneLinked (t : List ℕ) (i : ℕ) (D : List ℕ) (many : ℕ) (u : List ℕ) : Type 0 where
-  pub means : (C : List ℕ) (n : ℕ) (f : Form) (fs : Forms) (e : ℕ) → i < e → e ≤ 2048 → e * 4 ≤ length t → IsForm f → S.Row t C n i f → Kids t C n (rootIn D many) (i + 1) (parts f +& fs) e → Kids u C n (rootIn D many) i (f & fs) e × Before t u (i * 4)
+  pub means : (C : List ℕ) (n : ℕ) (f : Form) (fs : Forms) (e : ℕ) → i < e → e ≤ formLimit → e * 4 ≤ length t → IsForm f → S.Row t C n i f → Kids t C n (rootIn D many) (i + 1) (parts f +& fs) e → Kids u C n (rootIn D many) i (f & fs) e × Before t u (i * 4)
 
 -- the first `total` records linked: the forms that stood there are linked, each name by the first `many` definitions
 pub record AllLinked (t : List ℕ) (total : ℕ) (D : List ℕ) (many : ℕ) (u : List ℕ) : Type 0 where
-  pub means : (C : List ℕ) (n : ℕ) (fs : Forms) → total ≤ 2048 → total * 4 ≤ length t → AreForms fs → S.Stands t C n 0 fs total → Kids u C n (rootIn D many) 0 fs total
+  pub means : (C : List ℕ) (n : ℕ) (fs : Forms) → total ≤ formLimit → total * 4 ≤ length t → AreForms fs → S.Stands t C n 0 fs total → Kids u C n (rootIn D many) 0 fs total

@@ -11,14 +11,8 @@ mod names;
 
 pub use names::root_of;
 
-// The kind of a name.
-const NAME: u32 = 4;
-
-// The kind of a chain.
-const CHAIN: u32 = 5;
-
 // A record's first number is its kind and this many times its link.
-const KINDS: u32 = 32;
+pub const KINDS: u32 = 32;
 
 // Where the form at i leads to.
 fn next(t: &[u32], i: u32) -> u32
@@ -82,13 +76,13 @@ fn link_one(t: &mut [u32], i: u32, defs: &[u32], count: u32, index: &[u32])
     let k = i as usize * 4;
     let kind = tables::at(t, k) % KINDS;
     let arity = tables::at(t, k + 1);
-    if kind == CHAIN {
+    if kind == formtable::CHAIN {
         let r = reverse(t, i + 1, arity);
         tables::store(t, k + 2, r.last);
         set_link(t, i, r.rest);
         return;
     }
-    if kind == NAME {
+    if kind == formtable::NAME {
         let root = names::find(
             index,
             defs,

@@ -11,7 +11,10 @@ ghost use Rattle.linker.specs.Indexing.{Indexed};
 const ALIKE: u32 = 256;
 
 // The most definitions that an index has room for.
-const MOST: u32 = 128;
+const MOST: u32 = language::DEFINITION_LIMIT as u32;
+
+// The numbers of an index: one for each remainder, and one for each definition.
+const INDEX_SIZE: usize = 384;
 
 // The record of definition d's body, and one.
 fn root_at(defs: &[u32], d: u32) -> u32
@@ -36,16 +39,16 @@ pub fn root_of(defs: &[u32], count: u32, lo: u32, hi: u32) -> u32
 }
 
 // An index with nothing in it: 256 places by names' low numbers, and one for each of up to 128 definitions.
-fn empty() -> [u32; 384]
+fn empty() -> [u32; INDEX_SIZE]
     ensures { λ r. ⌜ r ≡ replicate 384 0 ⌝ }
 {
-    [0; 384]
+    [0; INDEX_SIZE]
 }
 
 // The index of the first `count` definitions, made from the last to the first. A link is how many definitions there are
 // from the one that it leads to on, 0 for none. The link of the definition with `left` from it on stands at left + 255.
 // Beyond 128 definitions nothing is promised.
-pub fn index(defs: &[u32], count: u32) -> [u32; 384]
+pub fn index(defs: &[u32], count: u32) -> [u32; INDEX_SIZE]
     ensures { λ r. ⌜ Indexed (now (defs .entry)) count r ⌝ }
 {
     let mut links = empty();

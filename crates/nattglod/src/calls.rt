@@ -12,14 +12,14 @@ use language::Meter;
 fn table_refusal(budget: u32, forms: usize, cells: usize) -> u32
     ensures { λ r. ⌜ r ≡ tableRefusal budget forms cells ⌝ }
 {
-    if 4096 < budget {
-        return 5;
+    if language::CELL_LIMIT < budget {
+        return language::CELLS_OVER;
     }
-    if forms != 8192 {
-        return 5;
+    if forms != language::FORM_TABLE_SIZE {
+        return language::CELLS_OVER;
     }
     if cells != 4 * budget as usize {
-        return 5;
+        return language::CELLS_OVER;
     }
     0
 }
@@ -28,17 +28,17 @@ fn table_refusal(budget: u32, forms: usize, cells: usize) -> u32
 fn early_refusal(program: usize, object: usize, b: Meter, forms: usize, cells: usize) -> u32
     ensures { λ r. ⌜ r ≡ earlyRefusal program object b forms cells ⌝ }
 {
-    if 8192 < program {
-        return 1;
+    if language::PROGRAM_LIMIT < program {
+        return language::LONG_PROGRAM;
     }
-    if 16384 < object {
-        return 2;
+    if language::OBJECT_LIMIT < object {
+        return language::LONG_OBJECT;
     }
-    if 1000000 < b.steps {
-        return 3;
+    if language::STEP_LIMIT < b.steps {
+        return language::STEPS_OVER;
     }
-    if 256 < b.names {
-        return 4;
+    if language::NAME_LIMIT < b.names {
+        return language::NAMES_OVER;
     }
     table_refusal(b.cells, forms, cells)
 }

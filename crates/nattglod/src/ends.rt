@@ -12,9 +12,9 @@ fn answer_written(c: &[u32], v: Val, steps: u32, cells: u32, output: &mut [u8]) 
     ensures { λ r. ⌜ WrittenAnswered (now (c .entry)) v steps cells (now (output .entry)) r (now (output .exit)) ⌝ }
 {
     match objects::write_object(c, v, output) {
-        Written::Done(length) => answers::counting(20, steps, cells, length as u32),
-        Written::Short => answers::counting(25, steps, cells, 0),
-        Written::Deep => answers::counting(26, steps, cells, 0),
+        Written::Done(length) => answers::counting(language::DONE, steps, cells, length as u32),
+        Written::Short => answers::counting(language::NO_ROOM, steps, cells, 0),
+        Written::Deep => answers::counting(language::DEEP_OBJECT, steps, cells, 0),
     }
 }
 

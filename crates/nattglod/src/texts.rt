@@ -52,10 +52,10 @@ fn answer_object(
     ensures { λ r. ⌜ ObjectAnswered (now (object .entry)) b (now (forms .entry)) total (now (definitions .entry)) many (now (c .entry)) used (now (output .entry)) r (now (output .exit)) ⌝ }
 {
     match objects::read_whole_object(object, c, used) {
-        ObjectRead::No(number, place) => answers::at(number, place, 2),
+        ObjectRead::No(number, place) => answers::at(number, place, language::OBJECT_TEXT),
         ObjectRead::Got(v, end, all) => {
             if b.cells < all {
-                return answers::bare(13);
+                return answers::bare(language::FEW_CELLS);
             }
             answer_main(b, forms, total, definitions, many, c, all, v, output)
         }
@@ -77,7 +77,7 @@ fn answer_program(
     ensures { λ r. ⌜ TextsAnswered (now (program .entry)) (now (object .entry)) b (lends (now (forms .entry)) (now (c .entry)) (now (output .entry))) r (now (output .exit)) ⌝ }
 {
     match programs::read_program(program, forms, c, definitions) {
-        ProgramRead::No(number, place) => answers::at(number, place, 1),
+        ProgramRead::No(number, place) => answers::at(number, place, language::PROGRAM_TEXT),
         ProgramRead::Got(many, total, used) => answer_object(
             object,
             b,
@@ -93,10 +93,10 @@ fn answer_program(
 }
 
 // Room for 128 definitions.
-fn definition_table() -> [u32; 512]
+fn definition_table() -> [u32; formtable::DEFINITION_TABLE_SIZE]
     ensures { λ r. ⌜ length r ≡ 512 ⌝ }
 {
-    [0; 512]
+    [0; formtable::DEFINITION_TABLE_SIZE]
 }
 
 // Reads both texts, and runs the program on the object.

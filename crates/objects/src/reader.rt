@@ -13,7 +13,7 @@ fn read_atom(s: &[u8], p: usize, used: u32) -> ObjectRead
 {
     let n = lexer::size_at(s, p);
     if n == 0 {
-        return ObjectRead::No(6, p);
+        return ObjectRead::No(language::NOT_IN_GRAMMAR, p);
     }
     match lexer::judge_atom(s, p, n) {
         AtomJudged::Is(v) => ObjectRead::Got(v, p + n, used),
@@ -32,7 +32,7 @@ pub fn read_object(s: &[u8], at: usize, room: u32, c: &mut [u32], used: u32) -> 
         return read_atom(s, p, used);
     }
     if room == 0 {
-        return ObjectRead::No(7, p);
+        return ObjectRead::No(language::OPEN_MARKS, p);
     }
     let q = lexer::skip_blanks(s, p + 1);
     let d = lexer::byte_at(s, q);
@@ -95,7 +95,7 @@ pub fn read_whole_object(s: &[u8], c: &mut [u32], used: u32) -> ObjectRead
     requires { ⌜ used + length (now s) ≤ 4294967294 ⌝ }
     ensures { λ r. ⌜ WholeReading (now (s .entry)) (now (c .entry)) used r (now (c .exit)) ⌝ }
 {
-    match read_object(s, 0, 32, c, used) {
+    match read_object(s, 0, language::MARK_LIMIT, c, used) {
         ObjectRead::No(k, p) => ObjectRead::No(k, p),
         ObjectRead::Got(v, e, end) => {
             let p = lexer::skip_blanks(s, e);

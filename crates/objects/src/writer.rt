@@ -78,7 +78,7 @@ fn walk_symbol(out: &mut [u8], at: usize, cap: usize, word: u64) -> Written
     requires { ⌜ at ≤ cap ⌝ }
     ensures { λ r. ⌜ SymbolWalked word at cap r (now (out .entry)) (now (out .exit)) ⌝ }
 {
-    let mut a = [0u8; 12];
+    let mut a = [0u8; language::WORD_LIMIT];
     let n = packing::unpack(word, Case::Upper, &mut a);
     walk_text(out, at, cap, &a, 0, n)
 }
@@ -90,10 +90,10 @@ fn walk_atom(v: Val, out: &mut [u8], at: usize, cap: usize) -> Written
 {
     let tag = v.tag;
     let word = v.word;
-    if tag == 2 {
+    if tag == language::SYMBOL {
         return walk_symbol(out, at, cap, word);
     }
-    if tag == 0 {
+    if tag == language::POSITIVE {
         return walk_decimal(out, at, cap, word);
     }
     if at == cap {
@@ -109,10 +109,10 @@ pub fn walk_object(c: &[u32], v: Val, out: &mut [u8], at: usize, cap: usize, ope
     ensures { λ r. ⌜ ObjectWalked (now (c .entry)) v at cap opened r (now (out .entry)) (now (out .exit)) ⌝ }
 {
     let tag = v.tag;
-    if tag != 3 {
+    if tag != language::SEQUENCE {
         return walk_atom(v, out, at, cap);
     }
-    if 32 <= opened {
+    if language::MARK_LIMIT <= opened {
         return Written::Deep;
     }
     if at == cap {
@@ -170,7 +170,11 @@ fn walk_place(
 fn output_room(n: usize) -> usize
     ensures { λ r. ⌜ r ≡ outputRoom n ⌝ }
 {
-    if 16384 < n { 16384 } else { n }
+    if language::WRITTEN_LIMIT < n {
+        language::WRITTEN_LIMIT
+    } else {
+        n
+    }
 }
 
 // Writes what v stands for to the front of the output; or says why not, and changes nothing.

@@ -59,7 +59,7 @@ pub fn unpack(v: u64, case: Case, out: &mut [u8]) -> usize
 {
     let mut left = v;
     let mut i = 0;
-    while i < 12 {
+    while i < language::WORD_LIMIT {
         if left == 0 {
             return i;
         }

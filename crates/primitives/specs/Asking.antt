@@ -2,6 +2,7 @@
 use Prim.Native.Nat.{ℕ, _≤_, _<_}
 use mathlib.Core.Path.{_≡_}
 use mathlib.Core.List.{List}
+use Rattle.language.specs.Numbers.{cellLimit}
 use Rattle.language.specs.Words.{Op, CellRule, entry, cellsBy}
 use Rattle.language.specs.Charging.{cellsTaken}
 use Rattle.language.specs.declared.Meter.{Meter}
@@ -24,7 +25,7 @@ pub data Reserves (C : List ℕ) (need : ℕ) (m : Meter) : Reserved → Type 0 
   too-few : {k : Meter} → m .cells < need → k ≡ m → Reserves C need m (Short k)
 
 pub record Kept (p : ℕ) (k m : Meter) : Type 0 where
-  pub low : p ≤ 4096
+  pub low : p ≤ cellLimit
   pub steps : k .steps ≡ m .steps
   pub names : k .names ≡ m .names
 

@@ -4,6 +4,7 @@ use mathlib.Core.Path.{_≡_}
 use mathlib.Core.Bool.{Bool, true, false, _&&_}
 use mathlib.Core.List.{List}
 use lib.Dec.{ltb}
+use Rattle.language.specs.Numbers.{half, one}
 use Rattle.language.specs.Objects.{Obj, seq, nil, _::_, Truth, isT, isF, neither, truthOf}
 use Rattle.language.specs.Meanings.{WordAnswer, falls, onPair, isAtom, isNull}
 use Rattle.language.specs.declared.Val.{Val}
@@ -24,7 +25,7 @@ pub record ReadTwo (C : List ℕ) (v : Val) (r : Two) : Type 0 where
 
 -- one of document 01's integers
 unfoldable pub isIntegerVal : Val → Bool
-isIntegerVal v = ltb (v .tag) 2 && ltb (v .word) 2147483648
+isIntegerVal v = ltb (v .tag) 2 && ltb (v .word) (half one)
 
 -- the symbols T and F
 abbrev pub truthVal : Bool → Val
@@ -47,5 +48,5 @@ pub record ReadNull (v : Val) (r : Bool) : Type 0 where
 
 -- an integer of any size that is given where it is in range
 pub record InRange (z : Val) (m : Meter) (r : Ended) : Type 0 where
-  pub below : z .word < 2147483648 → r ≡ Done z m
-  pub above : 2147483648 ≤ z .word → r ≡ Stop 21 m
+  pub below : z .word < half one → r ≡ Done z m
+  pub above : half one ≤ z .word → r ≡ Stop 21 m

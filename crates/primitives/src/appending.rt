@@ -7,15 +7,16 @@ use super::Reserved;
 use super::asking;
 use language::Meter;
 use language::Val;
+use lexer::codes;
 
 pub fn apndl(c: &mut [u32], a: Val, b: Val, m: Meter) -> Ended
     ensures { λ r. ⌜ LeafTwo (now (c .entry)) a b m (op Op.apndl) r (now (c .exit)) ⌝ }
 {
-    if b.tag != 3 {
-        return Ended::Stop(21, m);
+    if b.tag != language::SEQUENCE {
+        return Ended::Stop(language::BOTTOM, m);
     }
-    match asking::reserve(c, 14, cells::size(b), 0, m) {
-        Reserved::Short(k) => Ended::Stop(24, k),
+    match asking::reserve(c, codes::APNDL, cells::size(b), 0, m) {
+        Reserved::Short(k) => Ended::Stop(language::CELLS_SPENT, k),
         Reserved::At(p, k) => Ended::Done(sequences::put_before(c, p, a, b), k),
     }
 }
@@ -23,12 +24,12 @@ pub fn apndl(c: &mut [u32], a: Val, b: Val, m: Meter) -> Ended
 pub fn apndr(c: &mut [u32], a: Val, b: Val, m: Meter) -> Ended
     ensures { λ r. ⌜ LeafTwo (now (c .entry)) a b m (op Op.apndr) r (now (c .exit)) ⌝ }
 {
-    if a.tag != 3 {
-        return Ended::Stop(21, m);
+    if a.tag != language::SEQUENCE {
+        return Ended::Stop(language::BOTTOM, m);
     }
     let n = cells::size(a);
-    match asking::reserve(c, 19, n, 0, m) {
-        Reserved::Short(k) => Ended::Stop(24, k),
+    match asking::reserve(c, codes::APNDR, n, 0, m) {
+        Reserved::Short(k) => Ended::Stop(language::CELLS_SPENT, k),
         Reserved::At(p, k) => {
             let last = sequences::put_before(c, p, b, cells::sequence(0, 0));
             Ended::Done(sequences::prepended(c, a, n, p + 1, last), k)
@@ -39,12 +40,12 @@ pub fn apndr(c: &mut [u32], a: Val, b: Val, m: Meter) -> Ended
 pub fn distl(c: &mut [u32], a: Val, b: Val, m: Meter) -> Ended
     ensures { λ r. ⌜ LeafTwo (now (c .entry)) a b m (op Op.distl) r (now (c .exit)) ⌝ }
 {
-    if b.tag != 3 {
-        return Ended::Stop(21, m);
+    if b.tag != language::SEQUENCE {
+        return Ended::Stop(language::BOTTOM, m);
     }
     let n = cells::size(b);
-    match asking::reserve(c, 20, n, 0, m) {
-        Reserved::Short(k) => Ended::Stop(24, k),
+    match asking::reserve(c, codes::DISTL, n, 0, m) {
+        Reserved::Short(k) => Ended::Stop(language::CELLS_SPENT, k),
         Reserved::At(p, k) => Ended::Done(sequences::shared(c, a, b, true, n, p), k),
     }
 }
@@ -52,12 +53,12 @@ pub fn distl(c: &mut [u32], a: Val, b: Val, m: Meter) -> Ended
 pub fn distr(c: &mut [u32], a: Val, b: Val, m: Meter) -> Ended
     ensures { λ r. ⌜ LeafTwo (now (c .entry)) a b m (op Op.distr) r (now (c .exit)) ⌝ }
 {
-    if a.tag != 3 {
-        return Ended::Stop(21, m);
+    if a.tag != language::SEQUENCE {
+        return Ended::Stop(language::BOTTOM, m);
     }
     let n = cells::size(a);
-    match asking::reserve(c, 21, n, 0, m) {
-        Reserved::Short(k) => Ended::Stop(24, k),
+    match asking::reserve(c, codes::DISTR, n, 0, m) {
+        Reserved::Short(k) => Ended::Stop(language::CELLS_SPENT, k),
         Reserved::At(p, k) => Ended::Done(sequences::shared(c, b, a, false, n, p), k),
     }
 }

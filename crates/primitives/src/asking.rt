@@ -4,6 +4,7 @@ ghost use Rattle.primitives.specs.Asking.{CellsAsked, Clipped, Reserving
 use super::Reserved;
 use language::Charge;
 use language::Meter;
+use lexer::codes;
 
 // How many cells a rule asks for, of n places and, for the last rule, of rows of w.
 fn cells_by(rule: u32, n: u64, w: u64) -> u64
@@ -11,17 +12,17 @@ fn cells_by(rule: u32, n: u64, w: u64) -> u64
     ensures { λ r. ⌜ CellsAsked rule n w r ⌝ }
 {
     match rule {
-        1 => 1,
-        2 => {
+        codes::ONE => 1,
+        codes::ONE_LESS => {
             if n == 0 {
                 return 0;
             }
             n - 1
         }
-        3 => n,
-        4 => n + 1,
-        5 => 3 * n,
-        6 => w + w * n,
+        codes::AS_MANY => n,
+        codes::ONE_MORE => n + 1,
+        codes::THREE_EACH => 3 * n,
+        codes::ROWS => w + w * n,
         _ => 0,
     }
 }
@@ -41,7 +42,7 @@ pub fn reserve(c: &[u32], code: u32, n: u32, w: u32, m: Meter) -> Reserved
     ensures { λ r. ⌜ Reserving (now (c .entry)) code n w m r ⌝ }
 {
     let p = cells::free_cell(c, m);
-    if 4096 < p {
+    if language::CELL_LIMIT < p {
         return Reserved::Short(m);
     }
     let need = clipped(cells_by(lexer::cell_rule(code), n as u64, w as u64));

@@ -2,6 +2,7 @@
 ghost use Rattle.primitives.specs.Leaves.{Coded, CodedPair, CodedTwo};
 use language::Meter;
 use language::Val;
+use lexer::codes;
 
 mod appending;
 mod asking;
@@ -40,17 +41,17 @@ pub fn apply_word(code: u32, c: &mut [u32], v: Val, m: Meter) -> Ended
     ensures { λ r. ⌜ Coded (now (c .entry)) v m code r (now (c .exit)) ⌝ }
 {
     match code {
-        0 => Ended::Done(v, m),
-        1 => places::tl(c, v, m),
-        2 => truths::atom(v, m),
-        3 => truths::null(v, m),
-        6 => places::length(v, m),
-        13 => truths::not(v, m),
-        15 => places::tlr(c, v, m),
-        16 => places::arrange(16, c, v, m),
-        17 => places::arrange(17, c, v, m),
-        18 => places::arrange(18, c, v, m),
-        22 => transposing::trans(c, v, m),
+        codes::ID => Ended::Done(v, m),
+        codes::TL => places::tl(c, v, m),
+        codes::ATOM => truths::atom(v, m),
+        codes::NULL => truths::null(v, m),
+        codes::LENGTH => places::length(v, m),
+        codes::NOT => truths::not(v, m),
+        codes::TLR => places::tlr(c, v, m),
+        codes::REVERSE => places::arrange(codes::REVERSE, c, v, m),
+        codes::ROTL => places::arrange(codes::ROTL, c, v, m),
+        codes::ROTR => places::arrange(codes::ROTR, c, v, m),
+        codes::TRANS => transposing::trans(c, v, m),
         _ => apply_to_pair(code, c, v, m),
     }
 }
@@ -60,7 +61,7 @@ fn apply_to_pair(code: u32, c: &mut [u32], v: Val, m: Meter) -> Ended
     ensures { λ r. ⌜ CodedPair (now (c .entry)) v m code r (now (c .exit)) ⌝ }
 {
     match shapes::two(c, v) {
-        Two::Other => Ended::Stop(21, m),
+        Two::Other => Ended::Stop(language::BOTTOM, m),
         Two::Both(a, b) => apply_to_two(code, c, a, b, m),
     }
 }
@@ -70,18 +71,18 @@ fn apply_to_two(code: u32, c: &mut [u32], a: Val, b: Val, m: Meter) -> Ended
     ensures { λ r. ⌜ CodedTwo (now (c .entry)) a b m code r (now (c .exit)) ⌝ }
 {
     match code {
-        4 => truths::eq(c, a, b, m),
-        5 => numbers::lt(a, b, m),
-        7 => numbers::add(a, b, m),
-        8 => numbers::sub(a, b, m),
-        9 => numbers::mul(a, b, m),
-        10 => numbers::div(a, b, m),
-        11 => truths::and(a, b, m),
-        12 => truths::or(a, b, m),
-        14 => appending::apndl(c, a, b, m),
-        19 => appending::apndr(c, a, b, m),
-        20 => appending::distl(c, a, b, m),
-        21 => appending::distr(c, a, b, m),
-        _ => Ended::Stop(21, m),
+        codes::EQ => truths::eq(c, a, b, m),
+        codes::LT => numbers::lt(a, b, m),
+        codes::ADD => numbers::add(a, b, m),
+        codes::SUB => numbers::sub(a, b, m),
+        codes::MUL => numbers::mul(a, b, m),
+        codes::DIV => numbers::div(a, b, m),
+        codes::AND => truths::and(a, b, m),
+        codes::OR => truths::or(a, b, m),
+        codes::APNDL => appending::apndl(c, a, b, m),
+        codes::APNDR => appending::apndr(c, a, b, m),
+        codes::DISTL => appending::distl(c, a, b, m),
+        codes::DISTR => appending::distr(c, a, b, m),
+        _ => Ended::Stop(language::BOTTOM, m),
     }
 }

@@ -12,8 +12,8 @@ use language::Val;
 fn ranged(z: Val, m: Meter) -> Ended
     ensures { λ r. ⌜ InRange z m r ⌝ }
 {
-    if 2147483647 < z.word {
-        return Ended::Stop(21, m);
+    if language::LARGEST < z.word {
+        return Ended::Stop(language::BOTTOM, m);
     }
     Ended::Done(z, m)
 }
@@ -22,10 +22,10 @@ pub fn lt(a: Val, b: Val, m: Meter) -> Ended
     ensures { λ r. ⌜ PlainTwo a b m (op Op.lt) r ⌝ }
 {
     if !shapes::is_integer(a) {
-        return Ended::Stop(21, m);
+        return Ended::Stop(language::BOTTOM, m);
     }
     if !shapes::is_integer(b) {
-        return Ended::Stop(21, m);
+        return Ended::Stop(language::BOTTOM, m);
     }
     Ended::Done(shapes::truth(arithmetic::is_less(a, b)), m)
 }
@@ -34,10 +34,10 @@ pub fn add(a: Val, b: Val, m: Meter) -> Ended
     ensures { λ r. ⌜ PlainTwo a b m (op Op.add) r ⌝ }
 {
     if !shapes::is_integer(a) {
-        return Ended::Stop(21, m);
+        return Ended::Stop(language::BOTTOM, m);
     }
     if !shapes::is_integer(b) {
-        return Ended::Stop(21, m);
+        return Ended::Stop(language::BOTTOM, m);
     }
     ranged(arithmetic::add(a, b), m)
 }
@@ -46,10 +46,10 @@ pub fn sub(a: Val, b: Val, m: Meter) -> Ended
     ensures { λ r. ⌜ PlainTwo a b m (op Op.sub) r ⌝ }
 {
     if !shapes::is_integer(a) {
-        return Ended::Stop(21, m);
+        return Ended::Stop(language::BOTTOM, m);
     }
     if !shapes::is_integer(b) {
-        return Ended::Stop(21, m);
+        return Ended::Stop(language::BOTTOM, m);
     }
     ranged(arithmetic::subtract(a, b), m)
 }
@@ -58,10 +58,10 @@ pub fn mul(a: Val, b: Val, m: Meter) -> Ended
     ensures { λ r. ⌜ PlainTwo a b m (op Op.mul) r ⌝ }
 {
     if !shapes::is_integer(a) {
-        return Ended::Stop(21, m);
+        return Ended::Stop(language::BOTTOM, m);
     }
     if !shapes::is_integer(b) {
-        return Ended::Stop(21, m);
+        return Ended::Stop(language::BOTTOM, m);
     }
     ranged(arithmetic::multiply(a, b), m)
 }
@@ -70,13 +70,13 @@ pub fn div(a: Val, b: Val, m: Meter) -> Ended
     ensures { λ r. ⌜ PlainTwo a b m (op Op.div) r ⌝ }
 {
     if !shapes::is_integer(a) {
-        return Ended::Stop(21, m);
+        return Ended::Stop(language::BOTTOM, m);
     }
     if !shapes::is_integer(b) {
-        return Ended::Stop(21, m);
+        return Ended::Stop(language::BOTTOM, m);
     }
     if b.word + b.tag as u64 == 0 {
-        return Ended::Stop(21, m);
+        return Ended::Stop(language::BOTTOM, m);
     }
     ranged(arithmetic::divide(a, b), m)
 }

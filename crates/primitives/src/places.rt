@@ -8,15 +8,16 @@ use super::Reserved;
 use super::asking;
 use language::Meter;
 use language::Val;
+use lexer::codes;
 
 pub fn tl(c: &[u32], v: Val, m: Meter) -> Ended
     ensures { λ r. ⌜ Leaf (now (c .entry)) v m (op Op.tl) r (now (c .entry)) ⌝ }
 {
-    if v.tag != 3 {
-        return Ended::Stop(21, m);
+    if v.tag != language::SEQUENCE {
+        return Ended::Stop(language::BOTTOM, m);
     }
     if cells::size(v) == 0 {
-        return Ended::Stop(21, m);
+        return Ended::Stop(language::BOTTOM, m);
     }
     Ended::Done(cells::tail(c, v), m)
 }
@@ -24,8 +25,8 @@ pub fn tl(c: &[u32], v: Val, m: Meter) -> Ended
 pub fn length(v: Val, m: Meter) -> Ended
     ensures { λ r. ⌜ Plain v m (op Op.length) r ⌝ }
 {
-    if v.tag != 3 {
-        return Ended::Stop(21, m);
+    if v.tag != language::SEQUENCE {
+        return Ended::Stop(language::BOTTOM, m);
     }
     Ended::Done(arithmetic::positive(cells::size(v) as u64), m)
 }
@@ -35,9 +36,9 @@ fn arranged(code: u32, c: &mut [u32], v: Val, n: u32, p: u32) -> Val
     ensures { λ r. ⌜ Arranged (now (c .entry)) v code n p r (now (c .exit)) ⌝ }
 {
     match code {
-        15 => sequences::without_last(c, v, n, p),
-        16 => sequences::turned(c, v, n, p),
-        17 => sequences::left_turned(c, v, n, p),
+        codes::TLR => sequences::without_last(c, v, n, p),
+        codes::REVERSE => sequences::turned(c, v, n, p),
+        codes::ROTL => sequences::left_turned(c, v, n, p),
         _ => sequences::right_turned(c, v, n, p),
     }
 }
@@ -46,12 +47,12 @@ fn arranged(code: u32, c: &mut [u32], v: Val, n: u32, p: u32) -> Val
 pub fn arrange(code: u32, c: &mut [u32], v: Val, m: Meter) -> Ended
     ensures { λ r. ⌜ Ordered (now (c .entry)) v m code r (now (c .exit)) ⌝ }
 {
-    if v.tag != 3 {
-        return Ended::Stop(21, m);
+    if v.tag != language::SEQUENCE {
+        return Ended::Stop(language::BOTTOM, m);
     }
     let n = cells::size(v);
     match asking::reserve(c, code, n, 0, m) {
-        Reserved::Short(k) => Ended::Stop(24, k),
+        Reserved::Short(k) => Ended::Stop(language::CELLS_SPENT, k),
         Reserved::At(p, k) => Ended::Done(arranged(code, c, v, n, p), k),
     }
 }
@@ -61,7 +62,7 @@ pub fn tlr(c: &mut [u32], v: Val, m: Meter) -> Ended
 {
     let n = cells::size(v);
     if n == 0 {
-        return Ended::Stop(21, m);
+        return Ended::Stop(language::BOTTOM, m);
     }
-    arrange(15, c, v, m)
+    arrange(codes::TLR, c, v, m)
 }

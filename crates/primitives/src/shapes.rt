@@ -8,7 +8,7 @@ use language::Val;
 pub fn two(c: &[u32], v: Val) -> Two
     ensures { λ r. ⌜ ReadTwo (now (c .entry)) v r ⌝ }
 {
-    if v.tag != 3 {
+    if v.tag != language::SEQUENCE {
         return Two::Other;
     }
     if cells::size(v) != 2 {
@@ -22,33 +22,45 @@ pub fn two(c: &[u32], v: Val) -> Two
 pub fn is_integer(v: Val) -> bool
     ensures { λ r. ⌜ r ≡ isIntegerVal v ⌝ }
 {
-    if 2 <= v.tag {
+    if language::SYMBOL <= v.tag {
         return false;
     }
-    v.word < 2147483648
+    v.word < language::HALF
 }
+
+// The symbol T, packed.
+const TRUE: u64 = 20;
+
+// The symbol F, packed.
+const FALSE: u64 = 6;
 
 // The symbol T or F.
 pub fn truth(b: bool) -> Val
     ensures { λ r. ⌜ r ≡ truthVal b ⌝ }
 {
     if b {
-        return Val { tag: 2, word: 20 };
+        return Val {
+            tag: language::SYMBOL,
+            word: TRUE,
+        };
     }
-    Val { tag: 2, word: 6 }
+    Val {
+        tag: language::SYMBOL,
+        word: FALSE,
+    }
 }
 
 // 1 for the symbol T, 0 for F, 2 for anything else.
 pub fn truth_of(v: Val) -> u32
     ensures { λ r. ⌜ ReadTruth v r ⌝ }
 {
-    if v.tag != 2 {
+    if v.tag != language::SYMBOL {
         return 2;
     }
-    if v.word == 20 {
+    if v.word == TRUE {
         return 1;
     }
-    if v.word == 6 {
+    if v.word == FALSE {
         return 0;
     }
     2
@@ -58,7 +70,7 @@ pub fn truth_of(v: Val) -> u32
 pub fn is_atom(v: Val) -> bool
     ensures { λ r. ⌜ ReadAtom v r ⌝ }
 {
-    if v.tag != 3 {
+    if v.tag != language::SEQUENCE {
         return true;
     }
     v.word == 0
@@ -68,7 +80,7 @@ pub fn is_atom(v: Val) -> bool
 pub fn is_null(v: Val) -> bool
     ensures { λ r. ⌜ ReadNull v r ⌝ }
 {
-    if v.tag != 3 {
+    if v.tag != language::SEQUENCE {
         return false;
     }
     v.word == 0

@@ -25,7 +25,7 @@ pub fn not(v: Val, m: Meter) -> Ended
 {
     let x = shapes::truth_of(v);
     if x == 2 {
-        return Ended::Stop(21, m);
+        return Ended::Stop(language::BOTTOM, m);
     }
     Ended::Done(shapes::truth(x == 0), m)
 }
@@ -36,10 +36,10 @@ pub fn and(a: Val, b: Val, m: Meter) -> Ended
     let x = shapes::truth_of(a);
     let y = shapes::truth_of(b);
     if x == 2 {
-        return Ended::Stop(21, m);
+        return Ended::Stop(language::BOTTOM, m);
     }
     if y == 2 {
-        return Ended::Stop(21, m);
+        return Ended::Stop(language::BOTTOM, m);
     }
     if x == 0 {
         return Ended::Done(shapes::truth(false), m);
@@ -53,10 +53,10 @@ pub fn or(a: Val, b: Val, m: Meter) -> Ended
     let x = shapes::truth_of(a);
     let y = shapes::truth_of(b);
     if x == 2 {
-        return Ended::Stop(21, m);
+        return Ended::Stop(language::BOTTOM, m);
     }
     if y == 2 {
-        return Ended::Stop(21, m);
+        return Ended::Stop(language::BOTTOM, m);
     }
     if x == 1 {
         return Ended::Done(shapes::truth(true), m);
@@ -71,6 +71,6 @@ pub fn eq(c: &[u32], a: Val, b: Val, m: Meter) -> Ended
     match equality::same(c, a, b, m) {
         Compared::Equal(k) => Ended::Done(shapes::truth(true), k),
         Compared::Differ(k) => Ended::Done(shapes::truth(false), k),
-        Compared::Out(k) => Ended::Stop(22, k),
+        Compared::Out(k) => Ended::Stop(language::STEPS_SPENT, k),
     }
 }

@@ -78,8 +78,8 @@ fn text_length(t: &[u32], c: &[u32], d: &[u32], defs: u32) -> usize
 {
     let mut nothing = [0u8; 1];
     let end = walk_program(t, c, d, defs, &mut nothing);
-    if 16384 < end {
-        return 16385;
+    if language::WRITTEN_LIMIT < end {
+        return texts::TOO_LONG;
     }
     end
 }
@@ -99,7 +99,7 @@ pub fn write_program(t: &[u32], c: &[u32], d: &[u32], defs: u32, out: &mut [u8])
     ensures { λ r. ⌜ ProgramWritten (now (t .entry)) (now (c .entry)) (now (d .entry)) defs r (now (out .entry)) (now (out .exit)) ⌝ }
 {
     let length = text_length(t, c, d, defs);
-    if 16384 < length {
+    if language::WRITTEN_LIMIT < length {
         return Written::Short;
     }
     if out.len() < length {

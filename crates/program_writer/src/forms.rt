@@ -6,41 +6,44 @@ use super::Way;
 use super::texts;
 use language::Val;
 
+// No record is numbered so high.
+pub const RECORDS: u32 = language::FORM_LIMIT as u32;
+
 // Whether a chain that is a part of a form of this kind stands in brackets: in a chain, and behind `/`, `@` and `{`.
 pub fn takes_part(kind: u32) -> bool
     ensures { λ r. ⌜ r ≡ takesKind kind ⌝ }
 {
-    if 15 < kind {
+    if formtable::LAST_CONSTANT < kind {
         return true;
     }
-    if kind == 5 {
+    if kind == formtable::CHAIN {
         return true;
     }
-    if kind == 7 {
+    if kind == formtable::INSERT {
         return true;
     }
-    kind == 8
+    kind == formtable::APPLY_ALL
 }
 
 // The mark behind a part, with `left` parts to come: 0 for none, the dash for the arrow.
 fn mark_behind(kind: u32, left: u32) -> u8
     ensures { λ r. ⌜ MarkBehind kind left r ⌝ }
 {
-    if 15 < kind {
+    if formtable::LAST_CONSTANT < kind {
         return b',';
     }
     if left == 0 {
         return match kind {
-            6 => b']',
-            9 | 10 => b')',
+            formtable::CONSTRUCT => b']',
+            formtable::CONDITION | formtable::WHILE => b')',
             _ => 0,
         };
     }
     match kind {
-        5 => b'.',
-        6 => b',',
-        9 => if left == 1 { b';' } else { b'-' },
-        10 => b'?',
+        formtable::CHAIN => b'.',
+        formtable::CONSTRUCT => b',',
+        formtable::CONDITION => if left == 1 { b';' } else { b'-' },
+        formtable::WHILE => b'?',
         _ => 0,
     }
 }
@@ -64,15 +67,15 @@ fn walk_behind(kind: u32, left: u32, out: &mut [u8], at: usize) -> usize
 fn opening_mark(kind: u32) -> u8
     ensures { λ r. ⌜ OpeningMark kind r ⌝ }
 {
-    if 15 < kind {
+    if formtable::LAST_CONSTANT < kind {
         return b'{';
     }
     match kind {
-        5 => 0,
-        6 => b'[',
-        7 => b'/',
-        8 => b'@',
-        9 | 10 => b'(',
+        formtable::CHAIN => 0,
+        formtable::CONSTRUCT => b'[',
+        formtable::INSERT => b'/',
+        formtable::APPLY_ALL => b'@',
+        formtable::CONDITION | formtable::WHILE => b'(',
         _ => b'%',
     }
 }
@@ -83,14 +86,22 @@ fn walk_plain(c: &[u32], row: Val, out: &mut [u8], at: usize) -> usize
 {
     let kind = row.tag;
     let word = row.word;
-    if kind == 1 {
+    if kind == formtable::WORD {
         return texts::walk_word((word % 4294967296) as u32, out, at);
     }
-    if kind == 4 {
+    if kind == formtable::NAME {
         return texts::walk_name(word, out, at);
     }
-    let next = texts::walk_constant(c, Val { tag: 0, word }, out, at);
-    if kind == 3 {
+    let next = texts::walk_constant(
+        c,
+        Val {
+            tag: language::POSITIVE,
+            word,
+        },
+        out,
+        at,
+    );
+    if kind == formtable::SELECT_RIGHT {
         return texts::walk_mark(out, next, b'r');
     }
     next
@@ -101,7 +112,7 @@ fn walk_opening(c: &[u32], row: Val, out: &mut [u8], at: usize) -> usize
     ensures { λ r. ⌜ OpeningWalked (now (c .entry)) row at r (now (out .entry)) (now (out .exit)) ⌝ }
 {
     let kind = row.tag;
-    if kind < 5 {
+    if kind < formtable::CHAIN {
         return walk_plain(c, row, out, at);
     }
     let b = opening_mark(kind);
@@ -114,7 +125,7 @@ fn walk_opening(c: &[u32], row: Val, out: &mut [u8], at: usize) -> usize
         return texts::walk_constant(
             c,
             Val {
-                tag: kind % 4,
+                tag: kind % language::TAGS,
                 word,
             },
             out,
@@ -130,13 +141,13 @@ fn walk_ending(c: &[u32], row: Val, out: &mut [u8], at: usize) -> usize
 {
     let kind = row.tag;
     let word = row.word;
-    if kind < 16 {
+    if kind < formtable::BU {
         return at;
     }
     let next = texts::walk_constant(
         c,
         Val {
-            tag: kind % 4,
+            tag: kind % language::TAGS,
             word,
         },
         out,
@@ -149,7 +160,7 @@ fn walk_ending(c: &[u32], row: Val, out: &mut [u8], at: usize) -> usize
 pub fn walk_form(t: &[u32], c: &[u32], i: u32, out: &mut [u8], at: usize) -> Way
     ensures { λ r. ⌜ FormWalked (now (t .entry)) (now (c .entry)) i at r (now (out .entry)) (now (out .exit)) ⌝ }
 {
-    if 2048 <= i {
+    if RECORDS <= i {
         return Way { next: i, place: at };
     }
     let row = cells::value_at(t, i);
@@ -191,7 +202,7 @@ fn walk_parts(
 fn walk_part(t: &[u32], c: &[u32], kind: u32, i: u32, out: &mut [u8], at: usize) -> Way
     ensures { λ r. ⌜ PartWalked (now (t .entry)) (now (c .entry)) kind i at r (now (out .entry)) (now (out .exit)) ⌝ }
 {
-    if tables::at(t, i as usize * 4) != 5 {
+    if tables::at(t, i as usize * 4) != formtable::CHAIN {
         return walk_form(t, c, i, out, at);
     }
     if !takes_part(kind) {

@@ -6,6 +6,9 @@ use super::Depth;
 use super::forms;
 use language::Val;
 
+// More than 32 marks.
+const TOO_DEEP: u32 = 33;
+
 // The larger of two.
 pub fn larger(a: u32, b: u32) -> u32
     ensures { λ r. ⌜ r ≡ max a b ⌝ }
@@ -17,8 +20,8 @@ pub fn larger(a: u32, b: u32) -> u32
 fn one_more(marks: u32) -> u32
     ensures { λ r. ⌜ r ≡ min (suc marks) 33 ⌝ }
 {
-    if 32 < marks {
-        return 33;
+    if language::MARK_LIMIT < marks {
+        return TOO_DEEP;
     }
     marks + 1
 }
@@ -58,16 +61,16 @@ fn own_marks(c: &[u32], row: Val) -> u32
 {
     let kind = row.tag;
     let word = row.word;
-    if kind < 12 {
+    if kind < formtable::CONSTANT {
         return 0;
     }
     object_marks(
         c,
         Val {
-            tag: kind % 4,
+            tag: kind % language::TAGS,
             word,
         },
-        33,
+        TOO_DEEP,
     )
 }
 
@@ -75,14 +78,14 @@ fn own_marks(c: &[u32], row: Val) -> u32
 pub fn form_marks(t: &[u32], c: &[u32], i: u32) -> Depth
     ensures { λ r. ⌜ FormDepth (now (t .entry)) (now (c .entry)) i r ⌝ }
 {
-    if 2048 <= i {
+    if forms::RECORDS <= i {
         return Depth { next: i, marks: 0 };
     }
     let row = cells::value_at(t, i);
     let arity = tables::at(t, i as usize * 4 + 1);
     let d = parts_marks(t, c, row.tag, arity, i + 1);
     let inside = larger(d.marks, own_marks(c, row));
-    if row.tag < 6 {
+    if row.tag < formtable::CONSTRUCT {
         return Depth {
             next: d.next,
             marks: inside,
@@ -118,7 +121,7 @@ fn part_marks(t: &[u32], c: &[u32], kind: u32, i: u32) -> Depth
     ensures { λ r. ⌜ PartDepth (now (t .entry)) (now (c .entry)) kind i r ⌝ }
 {
     let d = form_marks(t, c, i);
-    if tables::at(t, i as usize * 4) != 5 {
+    if tables::at(t, i as usize * 4) != formtable::CHAIN {
         return d;
     }
     if !forms::takes_part(kind) {

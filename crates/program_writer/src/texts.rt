@@ -7,15 +7,18 @@ ghost use Rattle.lexer.specs.Vocabulary.{spelledAt};
 ghost use Rattle.program_writer.specs.Walks.{Behind, Wrote, NameWalked, ConstantWalked};
 use language::Val;
 
+// A place past 16,384.
+pub const TOO_LONG: usize = 16385;
+
 // The place n bytes behind `at`; past 16,384 it only says so.
 fn behind(at: usize, n: usize) -> usize
     ensures { λ r. ⌜ Behind at n r ⌝ }
 {
-    if 16384 < at {
-        return 16385;
+    if language::WRITTEN_LIMIT < at {
+        return TOO_LONG;
     }
-    if 16384 - at < n {
-        return 16385;
+    if language::WRITTEN_LIMIT - at < n {
+        return TOO_LONG;
     }
     at + n
 }
@@ -63,7 +66,7 @@ pub fn walk_word(code: u32, out: &mut [u8], from: usize) -> usize
 pub fn walk_name(word: u64, out: &mut [u8], at: usize) -> usize
     ensures { λ r. ⌜ NameWalked word at r (now (out .entry)) (now (out .exit)) ⌝ }
 {
-    let mut letters = [0u8; 12];
+    let mut letters = [0u8; language::WORD_LIMIT];
     let n = packing::unpack(word, packing::Case::Lower, &mut letters);
     walk_bytes(&letters, n, out, at)
 }
@@ -72,12 +75,12 @@ pub fn walk_name(word: u64, out: &mut [u8], at: usize) -> usize
 pub fn walk_constant(c: &[u32], v: Val, out: &mut [u8], at: usize) -> usize
     ensures { λ r. ⌜ ConstantWalked (now (c .entry)) v at r (now (out .entry)) (now (out .exit)) ⌝ }
 {
-    if 16384 < at {
-        return 16385;
+    if language::WRITTEN_LIMIT < at {
+        return TOO_LONG;
     }
-    match objects::walk_object(c, v, out, at, 16384, 0) {
+    match objects::walk_object(c, v, out, at, language::WRITTEN_LIMIT, 0) {
         objects::Written::Done(e) => e,
-        objects::Written::Short => 16385,
-        objects::Written::Deep => 16385,
+        objects::Written::Short => TOO_LONG,
+        objects::Written::Deep => TOO_LONG,
     }
 }

@@ -24,7 +24,7 @@ fn read_body(s: &[u8], at: usize, t: &mut [u32], n: usize, u: &mut [u32], c: u32
         MarkRead::No(number, place) => return FormRead::No(number, place),
         MarkRead::Got(a) => a,
     };
-    let x = match forms::read_form(s, a, 32, t, n, u, c) {
+    let x = match forms::read_form(s, a, language::MARK_LIMIT, t, n, u, c) {
         FormRead::No(number, place) => return FormRead::No(number, place),
         FormRead::Got(x) => x,
     };
@@ -149,14 +149,14 @@ pub fn read_program(s: &[u8], t: &mut [u32], u: &mut [u32], d: &mut [u32]) -> Pr
     match read_definitions(s, t, u, d) {
         DefinitionsRead::No(number, place) => ProgramRead::No(number, place),
         DefinitionsRead::Got(k, n, c) => {
-            if 2048 < n {
-                return ProgramRead::No(10, 0);
+            if language::FORM_LIMIT < n {
+                return ProgramRead::No(language::TOO_MANY, 0);
             }
-            if 128 < k {
-                return ProgramRead::No(10, 0);
+            if language::DEFINITION_LIMIT < k {
+                return ProgramRead::No(language::TOO_MANY, 0);
             }
             match find_twice(d, k) {
-                TwiceRead::At(place) => ProgramRead::No(11, place),
+                TwiceRead::At(place) => ProgramRead::No(language::NAME_TWICE, place),
                 TwiceRead::Nowhere => ProgramRead::Got(k, n, c),
             }
         }

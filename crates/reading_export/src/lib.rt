@@ -22,18 +22,18 @@ pub extern "C" fn nattglod_read_program(
 ) -> u64
     ensures { λ r. ⌜ r ≡ programCall (now (s .entry)) (length (now (forms .entry))) (length (now (definitions .entry))) ⌝ }
 {
-    if 8192 < s.len() {
-        return join(1, 0);
+    if language::PROGRAM_LIMIT < s.len() {
+        return join(language::LONG_PROGRAM, 0);
     }
-    if forms.len() != 8192 {
-        return join(5, 0);
+    if forms.len() != language::FORM_TABLE_SIZE {
+        return join(language::CELLS_OVER, 0);
     }
-    if definitions.len() != 512 {
-        return join(5, 0);
+    if definitions.len() != formtable::DEFINITION_TABLE_SIZE {
+        return join(language::CELLS_OVER, 0);
     }
     match programs::read_program(s, forms, cells, definitions) {
         ProgramRead::No(number, place) => join(number, place),
-        ProgramRead::Got(_, n, _) => join(20, n),
+        ProgramRead::Got(_, n, _) => join(language::DONE, n),
     }
 }
 
@@ -42,11 +42,11 @@ pub extern "C" fn nattglod_read_program(
 pub extern "C" fn nattglod_read_object(s: &[u8], cells: &mut [u32]) -> u64
     ensures { λ r. ⌜ r ≡ objectCall (now (s .entry)) ⌝ }
 {
-    if 16384 < s.len() {
-        return join(2, 0);
+    if language::OBJECT_LIMIT < s.len() {
+        return join(language::LONG_OBJECT, 0);
     }
     match objects::read_whole_object(s, cells, 0) {
         ObjectRead::No(number, place) => join(number, place),
-        ObjectRead::Got(_, _, end) => join(20, end as usize),
+        ObjectRead::Got(_, _, end) => join(language::DONE, end as usize),
     }
 }

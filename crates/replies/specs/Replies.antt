@@ -5,6 +5,7 @@ use mathlib.Core.List.{List, _++_}
 use mathlib.Core.Option.{some}
 use lib.ListN.{length, take, drop}
 use Rattle.groundwork.specs.Options.{onSome}
+use Rattle.language.specs.Numbers.{cellLimit, cellTableSize}
 use Rattle.language.specs.Answers.{runCall}
 use Rattle.language.specs.Fprun.{budgetsIn, lentFor, shown, reply, fprun}
 use Rattle.language.specs.declared.Meter.{Meter}
@@ -29,8 +30,8 @@ linesReply first program object = reply (onSome (budgetsIn first) (λ b. some (c
 
 -- four numbers to each cell, where the cells are within the limit
 pub record CellsLent (cells r : ℕ) : Type 0 where
-  pub four : cells ≤ 4096 → r ≡ 4 * cells
-  pub fits : r ≤ 16384
+  pub four : cells ≤ cellLimit → r ≡ 4 * cells
+  pub fits : r ≤ cellTableSize cellLimit
 
 -- three lines end at these places of the input, and the reply has room
 pub record LinesEnd (input : List ℕ) (a b c : ℕ) (out : List ℕ) : Type 0 where

@@ -9,11 +9,18 @@ use call_lines::Budgets;
 use call_lines::Lines;
 use language::Meter;
 
+// The most bytes of an input.
+const INPUT_LIMIT: usize = 25000;
+
 // How much of the cell table is lent for so many cells; over the limit none.
 fn cells_lent(cells: u32) -> usize
     ensures { λ r. ⌜ CellsLent cells r ⌝ }
 {
-    if 4096 < cells { 0 } else { 4 * cells as usize }
+    if language::CELL_LIMIT < cells {
+        0
+    } else {
+        4 * cells as usize
+    }
 }
 
 // Runs the program on the object, and prints what is shown of the answer.
@@ -53,10 +60,10 @@ fn answer_lines(s: &[u8], first: usize, second: usize, third: usize, out: &mut [
 }
 
 // The reply to the input stands in the first r bytes; behind it `out` is as it was.
-pub fn answer_input(s: &[u8], out: &mut [u8; 16451]) -> usize
+pub fn answer_input(s: &[u8], out: &mut [u8; buffers::REPLY_SIZE]) -> usize
     ensures { λ r. ⌜ Replied (now (s .entry)) (now (out .entry)) r (now (out .exit)) ⌝ }
 {
-    if 25000 < s.len() {
+    if INPUT_LIMIT < s.len() {
         return call_lines::print_other(out);
     }
     match call_lines::cut_lines(s) {

@@ -2,28 +2,30 @@
 ghost use mathlib.Core.Path.{_≡_};
 ghost use lib.ListN.{length};
 
-// The longest reply: six numbers of at most ten digits, each with a byte behind it, and a text of 16,384 bytes with its
-// line feed.
-pub fn reply() -> [u8; 16451]
+// The bytes of the longest reply: six numbers of at most ten digits, each with a byte behind it, and a text of 16,384 bytes
+// with its line feed.
+pub const REPLY_SIZE: usize = 16451;
+
+pub fn reply() -> [u8; REPLY_SIZE]
     ensures { λ r. ⌜ 16451 ≡ length r ⌝ }
 {
-    [0; 16451]
+    [0; REPLY_SIZE]
 }
 
-pub fn form_table() -> [u32; 8192]
+pub fn form_table() -> [u32; language::FORM_TABLE_SIZE]
     ensures { λ r. ⌜ 8192 ≡ length r ⌝ }
 {
-    [0; 8192]
+    [0; language::FORM_TABLE_SIZE]
 }
 
-pub fn cell_table() -> [u32; 16384]
+pub fn cell_table() -> [u32; language::CELL_TABLE_SIZE]
     ensures { λ r. ⌜ 16384 ≡ length r ⌝ }
 {
-    [0; 16384]
+    [0; language::CELL_TABLE_SIZE]
 }
 
-pub fn output() -> [u8; 16384]
+pub fn output() -> [u8; language::WRITTEN_LIMIT]
     ensures { λ r. ⌜ 16384 ≡ length r ⌝ }
 {
-    [0; 16384]
+    [0; language::WRITTEN_LIMIT]
 }
