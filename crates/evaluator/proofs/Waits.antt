@@ -11,7 +11,7 @@ use Rattle.language.specs.declared.Meter.{Meter}
 use Rattle.language.specs.declared.Charge.{Charge}
 use Rattle.language.specs.declared.Charge.the-variants.{Granted, Spent}
 use Rattle.language.specs.declared.Val.{Val}
-use Rattle.language.proofs.Charging.{cells-asked, cells-granted}
+use Rattle.language.proofs.Charging.{cells-asked, cells-granted, onCharge}
 use Rattle.cells.specs.Cells.{Rep, Same, Room, free, valAt}
 use Rattle.cells.specs.Parts.{heldAt, holdAt, onto, Held, no-held, a-held, Gathered}
 use Rattle.cells.proofs.Reps.{same-refl, same-trans, rep-ext, free-is, free-room}
