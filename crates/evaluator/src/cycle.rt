@@ -1,5 +1,5 @@
 // Applications of linked forms: f holds the forms, c the cells, w the ring of values that wait, of which those from top on
-// are free. Each function calls the others with fewer steps left.
+// are free. Every round of calls goes through `step`, which takes a step; so the calls end.
 ghost use Rattle.evaluator.specs.Applying.{Applied, Chained, Slotted, Constructed, Mapped, Folded, Between, Inserted, Questioned, Repeated, Bound, Chosen, NameApplied};
 use crate::alone::leaf;
 use crate::records::arity;

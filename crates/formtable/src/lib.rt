@@ -1,5 +1,5 @@
-// How a program lies in the form table, and its definitions in a table beside it, is said in specs/; readers, writers and laws
-// cite it.
+// How a program lies in the form table, and its definitions in a table beside it, is said in specs/; the readers, the writer
+// and the link pass cite it.
 ghost use mathlib.Core.Path.{_≡_};
 ghost use Rattle.formtable.specs.Encoding.{named};
 

@@ -1,4 +1,4 @@
-// Where the next word, number or mark stands. Every function is total: past the text's end nothing stands.
+// Where the next word, number or mark stands. A place may lie past the text's end: nothing stands there.
 ghost use Prim.Native.Nat.{_≤_, _+_};
 ghost use lib.ListN.{length};
 ghost use Rattle.lexer.specs.Readings.{Spanned, Skipped, WordSized, NextWord};

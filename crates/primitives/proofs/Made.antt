@@ -1,7 +1,7 @@
 -- The words that make cells: reverse, rotl, rotr, tlr; apndl, apndr, distl, distr.
 use Prim.Native.Nat.{ℕ, suc, _+_, _-_, _*_, _≤_, _<_}
 use mathlib.Core.Path.{_≡_, refl, sym, ap, subst, _∙_}
-use mathlib.Core.Bool.{true, false}
+use mathlib.Core.Bool.{Bool, true, false}
 use mathlib.Core.List.{List}
 use native.Mathlib.Omega.{arith}
 use lib.ListN.{length}
@@ -248,6 +248,12 @@ unfolding sides
 sides-right x nil = refl
 sides-right x (y :: ys) = ap (λ (t : Objs). pair y x :: t) (sides-right x ys)
 
+-- the pairs with one object, on either side of it, are what the word gives
+shared-given : {C C′ : List ℕ} {a v r : Val} {m k : Meter} {n p : ℕ} {left : Bool} {w : WordAnswer} (x : Obj) (ys zs : Objs) → n ≡ lengthOf ys → Room C m → Got C (3 * n) m p k → Shared C a v left n p r C′ → length C′ ≡ length C
+    → Rep C (free C m) a x → Rep C (free C m) v (seq ys) → sides left x ys ≡ zs → w ≡ gives 0 (3 * lengthOf ys) (seq zs) → Gives C m C′ (charged w m) (Done r k)
+shared-given {n = n} {w = w} x ys zs i room d t l ra rv same e =
+    end-stands {a = w} (3 * n) zs room (rw i e) d l (stands-as same (t .means x ys (sym i) (space-at room d) (rw (← (d .first)) at ra) (rw (← (d .first)) at rv)))
+
 pub distl-short : {C : List ℕ} {a b : Val} {m k : Meter} {n : ℕ} {q : Reserved} → b .tag ≡ 3 → Sized b n → Reserving C 20 n 0 m q → q ≡ Short k → LeafTwo C a b m (op Op.distl) (Stop 24 k) C
 distl-short h s g e = record {
   sinks = tt;
@@ -257,12 +263,9 @@ distl-short h s g e = record {
 }
 
 pub distl-is : {C C′ : List ℕ} {a b r : Val} {m k : Meter} {n p : ℕ} {q : Reserved} → b .tag ≡ 3 → Sized b n → Reserving C 20 n 0 m q → q ≡ At p k → Shared C a b true n p r C′ → length C′ ≡ length C → LeafTwo C a b m (op Op.distl) (Done r k) C′
-distl-is {C} {C′} {a} {b} {r} {n = n} {p = p} h s g e t l = record {
+distl-is h s g e t l = record {
   sinks = kept-sinks (kept g e);
-  means = second-seq Op.distl h s (λ x ys i room ra rb.
-      let d = rw i at (got Op.distl g e code-distl room) in
-      let t₁ : Shared C a b true (lengthOf ys) p r C′ = rw i at t in
-      end-stands (3 * lengthOf ys) (withLeft x ys) room refl d l (stands-as (sides-left x ys) (t₁ .means x ys refl (space-at room d) (rw (← (d .first)) at ra) (rw (← (d .first)) at rb))));
+  means = second-seq Op.distl h s (λ x ys i room ra rb. shared-given x ys (withLeft x ys) i room (got Op.distl g e code-distl room) t l ra rb (sides-left x ys) refl);
 }
 
 pub distr-short : {C : List ℕ} {a b : Val} {m k : Meter} {n : ℕ} {q : Reserved} → a .tag ≡ 3 → Sized a n → Reserving C 21 n 0 m q → q ≡ Short k → LeafTwo C a b m (op Op.distr) (Stop 24 k) C
@@ -274,10 +277,7 @@ distr-short h s g e = record {
 }
 
 pub distr-is : {C C′ : List ℕ} {a b r : Val} {m k : Meter} {n p : ℕ} {q : Reserved} → a .tag ≡ 3 → Sized a n → Reserving C 21 n 0 m q → q ≡ At p k → Shared C b a false n p r C′ → length C′ ≡ length C → LeafTwo C a b m (op Op.distr) (Done r k) C′
-distr-is {C} {C′} {a} {b} {r} {n = n} {p = p} h s g e t l = record {
+distr-is h s g e t l = record {
   sinks = kept-sinks (kept g e);
-  means = first-seq Op.distr h s (λ xs y i room ra rb.
-      let d = rw i at (got Op.distr g e code-distr room) in
-      let t₁ : Shared C b a false (lengthOf xs) p r C′ = rw i at t in
-      end-stands (3 * lengthOf xs) (withRight xs y) room refl d l (stands-as (sides-right y xs) (t₁ .means y xs refl (space-at room d) (rw (← (d .first)) at rb) (rw (← (d .first)) at ra))));
+  means = first-seq Op.distr h s (λ xs y i room ra rb. shared-given y xs (withRight xs y) i room (got Op.distr g e code-distr room) t l rb ra (sides-right y xs) refl);
 }
