@@ -2,6 +2,7 @@
 ghost use Prim.Native.Nat.{_+_, _≤_};
 ghost use lib.ListN.{length, take};
 ghost use mathlib.Core.List.{[], _∷_, _++_};
+ghost use Rattle.language.specs.Numbers.{writtenLimit};
 ghost use Rattle.language.specs.Bytes.{bytes};
 ghost use Rattle.language.specs.Writing.{decimal};
 ghost use Rattle.language.specs.Fprun.{line, numbers};
@@ -47,7 +48,7 @@ fn print_text(out: &mut [u8], at: usize, text: &[u8], n: usize) -> usize
 
 // Writes what is shown of an answer to the front of the output: the six numbers, and after 20 the text.
 pub fn print_answer(out: &mut [u8], a: Answer, text: &[u8]) -> usize
-    requires { ⌜ (16451 ≤ length (now out)) × (length (now text) ≤ 16384) ⌝ }
+    requires { ⌜ (16451 ≤ length (now out)) × (length (now text) ≤ writtenLimit) ⌝ }
     ensures { λ r. ⌜ Printed (shownAs a (now (text .entry))) 16451 (now (out .entry)) 0 r (now (out .exit)) ⌝ }
 {
     let at = print_numbers(out, a);

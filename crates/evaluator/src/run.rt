@@ -1,6 +1,7 @@
 // A whole run.
 ghost use mathlib.Core.Path.{_≡_};
 ghost use lib.ListN.{length};
+ghost use Rattle.language.specs.Numbers.{cellLimit, formTableSize, cellTableSize};
 ghost use Rattle.evaluator.specs.Applying.{Ran, FormsCopied};
 use crate::cycle::name;
 use crate::waiting::RING_SIZE;
@@ -38,14 +39,14 @@ fn copied(forms: &[u32]) -> [u32; FORM_TABLE_SIZE]
 
 // A table of 8,192 numbers.
 fn empty() -> [u32; FORM_TABLE_SIZE]
-    ensures { λ r. ⌜ length r ≡ 8192 ⌝ }
+    ensures { λ r. ⌜ length r ≡ formTableSize ⌝ }
 {
     [0; FORM_TABLE_SIZE]
 }
 
 // A ring of 4,096 places.
 fn ring() -> [u32; RING_SIZE]
-    ensures { λ r. ⌜ length r ≡ 16384 ⌝ }
+    ensures { λ r. ⌜ length r ≡ cellTableSize cellLimit ⌝ }
 {
     [0; RING_SIZE]
 }

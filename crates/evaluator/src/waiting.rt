@@ -1,6 +1,7 @@
 // Values that wait in the ring, and what a question says.
 ghost use mathlib.Core.Path.{_≡_};
 ghost use Prim.Native.Nat.{_+_, _%_};
+ghost use Rattle.language.specs.Numbers.{cellLimit};
 ghost use Rattle.evaluator.specs.Applying.{Collected, Spread};
 use language::Charge;
 use language::Meter;
@@ -21,7 +22,7 @@ pub enum Asked {
 
 // The place of the ring that is q places above top.
 pub fn place(top: u32, q: u32) -> u32
-    ensures { λ r. ⌜ r ≡ (top + q) % 4096 ⌝ }
+    ensures { λ r. ⌜ r ≡ (top + q) % cellLimit ⌝ }
 {
     ((top as u64 + q as u64) % PLACES) as u32
 }

@@ -2,6 +2,7 @@
 ghost use mathlib.Core.Path.{_≡_};
 ghost use Prim.Native.Nat.{_≤_};
 ghost use lib.ListN.{length};
+ghost use Rattle.language.specs.Numbers.{programLimit};
 ghost use Rattle.forms.specs.Readers.{isOpening, isArrow};
 ghost use Rattle.forms.specs.Readings.{Marked, Dotted, Separated, Tested};
 use super::CommaRead;
@@ -11,7 +12,7 @@ use super::TestRead;
 
 // The mark b, next from `at` on.
 pub fn read_mark(s: &[u8], at: usize, b: u8) -> MarkRead
-    requires { ⌜ (length (now s) ≤ 8192) × (at ≤ length (now s)) ⌝ }
+    requires { ⌜ (length (now s) ≤ programLimit) × (at ≤ length (now s)) ⌝ }
     ensures { λ r. ⌜ Marked b (now (s .entry)) at r ⌝ }
 {
     let p = lexer::skip_blanks(s, at);
@@ -23,7 +24,7 @@ pub fn read_mark(s: &[u8], at: usize, b: u8) -> MarkRead
 
 // Whether a dot follows a part that ends before `at`.
 pub fn read_dot(s: &[u8], at: usize) -> DotRead
-    requires { ⌜ (length (now s) ≤ 8192) × (at ≤ length (now s)) ⌝ }
+    requires { ⌜ (length (now s) ≤ programLimit) × (at ≤ length (now s)) ⌝ }
     ensures { λ r. ⌜ Dotted (now (s .entry)) at r ⌝ }
 {
     let p = lexer::skip_blanks(s, at);
@@ -35,7 +36,7 @@ pub fn read_dot(s: &[u8], at: usize) -> DotRead
 
 // What follows a form of `[ ]` that ends before `at`.
 pub fn read_comma(s: &[u8], at: usize) -> CommaRead
-    requires { ⌜ (length (now s) ≤ 8192) × (at ≤ length (now s)) ⌝ }
+    requires { ⌜ (length (now s) ≤ programLimit) × (at ≤ length (now s)) ⌝ }
     ensures { λ r. ⌜ Separated (now (s .entry)) at r ⌝ }
 {
     let p = lexer::skip_blanks(s, at);
@@ -66,7 +67,7 @@ pub fn is_opening(b: u8) -> bool
 
 // Whether `->` stands at p.
 fn is_arrow(s: &[u8], p: usize) -> bool
-    requires { ⌜ p ≤ 8192 ⌝ }
+    requires { ⌜ p ≤ programLimit ⌝ }
     ensures { λ r. ⌜ r ≡ isArrow (now (s .entry)) p ⌝ }
 {
     if lexer::byte_at(s, p) != b'-' {
@@ -77,7 +78,7 @@ fn is_arrow(s: &[u8], p: usize) -> bool
 
 // What follows the first form in `( )`, which ends before `at`.
 pub fn read_test(s: &[u8], at: usize) -> TestRead
-    requires { ⌜ (length (now s) ≤ 8192) × (at ≤ length (now s)) ⌝ }
+    requires { ⌜ (length (now s) ≤ programLimit) × (at ≤ length (now s)) ⌝ }
     ensures { λ r. ⌜ Tested (now (s .entry)) at r ⌝ }
 {
     let p = lexer::skip_blanks(s, at);

@@ -1,6 +1,7 @@
 // Parts that hold no form: words, names and constants; and the object of `{f,x}`.
 ghost use Prim.Native.Nat.{_+_, _≤_, _<_};
 ghost use lib.ListN.{length};
+ghost use Rattle.language.specs.Numbers.{programLimit};
 ghost use Rattle.forms.specs.Readers.{boundAt, constantRead};
 ghost use Rattle.forms.specs.Readings.{Ready, ObjectMet, FormMet, PlainPut, BuPut, PlainMet};
 use super::FormRead;
@@ -12,9 +13,9 @@ use lexer::PartJudged;
 use objects::ObjectRead;
 
 // Writes record n of a form without parts, whose text ends before `next`.
-fn put_plain(t: &mut [u32], n: usize, kind: u32, word: u64, next: usize, c: u32) -> FormRead
-    requires { ⌜ n ≤ 8192 ⌝ }
-    ensures { λ r. ⌜ PlainPut n c next kind word (now (t .entry)) r (now (t .exit)) ⌝ }
+fn put_plain(t: &mut [u32], n: usize, kind: u32, word: u64, next: usize, used: u32) -> FormRead
+    requires { ⌜ n ≤ programLimit ⌝ }
+    ensures { λ r. ⌜ PlainPut n used next kind word (now (t .entry)) r (now (t .exit)) ⌝ }
 {
     tables::put_record(
         t,
@@ -27,14 +28,14 @@ fn put_plain(t: &mut [u32], n: usize, kind: u32, word: u64, next: usize, c: u32)
     FormRead::Got(Upto {
         next,
         forms: n + 1,
-        cells: c,
+        cells: used,
     })
 }
 
 // Writes record n of `{f,x}`, where the records of f go up to m, v stands for x and the text ends before `next`.
-pub fn put_bu(t: &mut [u32], n: usize, m: usize, v: Val, next: usize, c: u32) -> FormRead
+pub fn put_bu(t: &mut [u32], n: usize, m: usize, v: Val, next: usize, used: u32) -> FormRead
     requires { ⌜ v .tag < 4 ⌝ }
-    ensures { λ r. ⌜ BuPut n m c next v (now (t .entry)) r (now (t .exit)) ⌝ }
+    ensures { λ r. ⌜ BuPut n m used next v (now (t .entry)) r (now (t .exit)) ⌝ }
 {
     let word = v.word;
     tables::put_record(
@@ -48,46 +49,53 @@ pub fn put_bu(t: &mut [u32], n: usize, m: usize, v: Val, next: usize, c: u32) ->
     FormRead::Got(Upto {
         next,
         forms: m,
-        cells: c,
+        cells: used,
     })
 }
 
 // A primitive word, a selector or a name at p, as record n.
-pub fn read_plain(s: &[u8], p: usize, t: &mut [u32], n: usize, c: u32) -> FormRead
-    requires { ⌜ (p ≤ length (now s)) × (n ≤ 8192) ⌝ }
-    ensures { λ r. ⌜ PlainMet (now (s .entry)) p n c (now (t .entry)) r (now (t .exit)) ⌝ }
+pub fn read_plain(s: &[u8], p: usize, t: &mut [u32], n: usize, used: u32) -> FormRead
+    requires { ⌜ (p ≤ length (now s)) × (n ≤ programLimit) ⌝ }
+    ensures { λ r. ⌜ PlainMet (now (s .entry)) p n used (now (t .entry)) r (now (t .exit)) ⌝ }
 {
     let size = lexer::size_at(s, p);
     match lexer::judge_part(s, p, size) {
-        PartJudged::Primitive(code) => put_plain(t, n, formtable::WORD, code as u64, p + size, c),
-        PartJudged::Select(k) => put_plain(t, n, formtable::SELECT, k as u64, p + size, c),
+        PartJudged::Primitive(code) => put_plain(
+            t,
+            n,
+            formtable::WORD,
+            code as u64,
+            p + size,
+            used,
+        ),
+        PartJudged::Select(k) => put_plain(t, n, formtable::SELECT, k as u64, p + size, used),
         PartJudged::SelectRight(k) => put_plain(
             t,
             n,
             formtable::SELECT_RIGHT,
             k as u64,
             p + size,
-            c,
+            used,
         ),
-        PartJudged::Name(word) => put_plain(t, n, formtable::NAME, word, p + size, c),
+        PartJudged::Name(word) => put_plain(t, n, formtable::NAME, word, p + size, used),
         PartJudged::Not(number) => FormRead::No(number, p),
     }
 }
 
-// Behind a `%`: the object is read to the cells from c on, its value to record n.
+// Behind a `%`: the object is read to the cells from `used` on, its value to record n.
 pub fn read_constant(
     s: &[u8],
     at: usize,
     room: u32,
     t: &mut [u32],
     n: usize,
-    u: &mut [u32],
-    c: u32,
+    c: &mut [u32],
+    used: u32,
 ) -> FormRead
-    requires { ⌜ Ready (now s) at (n + 1) c ⌝ }
-    ensures { λ r. ⌜ FormMet n c (now (t .entry)) (now (u .entry)) r (now (t .exit)) (now (u .exit)) (constantRead (now (s .entry)) at room) ⌝ }
+    requires { ⌜ Ready (now s) at (n + 1) used ⌝ }
+    ensures { λ r. ⌜ FormMet n used (now (t .entry)) (now (c .entry)) r (now (t .exit)) (now (c .exit)) (constantRead (now (s .entry)) at room) ⌝ }
 {
-    match objects::read_object(s, at, room, u, c) {
+    match objects::read_object(s, at, room, c, used) {
         ObjectRead::No(number, place) => FormRead::No(number, place),
         ObjectRead::Got(v, next, d) => put_plain(
             t,
@@ -100,16 +108,16 @@ pub fn read_constant(
     }
 }
 
-// Behind the form of `{f,x}`: the comma, the object, which is read to the cells from c on, and the `}`.
-pub fn read_bound(s: &[u8], at: usize, room: u32, u: &mut [u32], c: u32) -> ObjectRead
-    requires { ⌜ Ready (now s) at 0 c ⌝ }
-    ensures { λ r. ⌜ ObjectMet c (now (u .entry)) r (now (u .exit)) (boundAt (now (s .entry)) at room) ⌝ }
+// Behind the form of `{f,x}`: the comma, the object, which is read to the cells from `used` on, and the `}`.
+pub fn read_bound(s: &[u8], at: usize, room: u32, c: &mut [u32], used: u32) -> ObjectRead
+    requires { ⌜ Ready (now s) at 0 used ⌝ }
+    ensures { λ r. ⌜ ObjectMet used (now (c .entry)) r (now (c .exit)) (boundAt (now (s .entry)) at room) ⌝ }
 {
     let a = match marks::read_mark(s, at, b',') {
         MarkRead::No(number, place) => return ObjectRead::No(number, place),
         MarkRead::Got(a) => a,
     };
-    match objects::read_object(s, a, room, u, c) {
+    match objects::read_object(s, a, room, c, used) {
         ObjectRead::No(number, place) => ObjectRead::No(number, place),
         ObjectRead::Got(v, e, d) => match marks::read_mark(s, e, b'}') {
             MarkRead::No(number, place) => ObjectRead::No(number, place),

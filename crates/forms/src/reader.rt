@@ -1,6 +1,6 @@
 // Forms and parts of the text s, which hold each other: each is read to the records of the form table t from n on, its constants
-// to the cells u from c on. A form's record stands before those of its parts. Readers call each other only where marks nest; parts
-// and forms in a row are loops.
+// to the cells c from `used` on. A form's record stands before those of its parts. Readers call each other only where marks
+// nest; parts and forms in a row are loops.
 ghost use Prim.Native.Nat.{_+_, _≤_};
 ghost use Rattle.forms.specs.Readers.{formAt, partsAt, partAt, formsAt, prefixAt, constructAt, buAt, roundAt, closedAt, chainAt, whileAt, branchesAt, conditionAt};
 ghost use Rattle.forms.specs.Readings.{Ready, FormMet, FormsMet, BranchesMet, Continued};
@@ -22,13 +22,13 @@ pub fn read_form(
     room: u32,
     t: &mut [u32],
     n: usize,
-    u: &mut [u32],
-    c: u32,
+    c: &mut [u32],
+    used: u32,
 ) -> FormRead
-    requires { ⌜ Ready (now s) at n c ⌝ }
-    ensures { λ r. ⌜ FormMet n c (now (t .entry)) (now (u .entry)) r (now (t .exit)) (now (u .exit)) (formAt (now (s .entry)) at room) ⌝ }
+    requires { ⌜ Ready (now s) at n used ⌝ }
+    ensures { λ r. ⌜ FormMet n used (now (t .entry)) (now (c .entry)) r (now (t .exit)) (now (c .exit)) (formAt (now (s .entry)) at room) ⌝ }
 {
-    let x = match read_part(s, at, room, t, n, u, c) {
+    let x = match read_part(s, at, room, t, n, c, used) {
         FormRead::No(number, place) => return FormRead::No(number, place),
         FormRead::Got(x) => x,
     };
@@ -37,7 +37,7 @@ pub fn read_form(
     let d = x.cells;
     match marks::read_dot(s, e) {
         DotRead::Nothing => FormRead::Got(x),
-        DotRead::Dot(a) => read_chain(s, a, room, t, n, m, u, d),
+        DotRead::Dot(a) => read_chain(s, a, room, t, n, m, c, d),
     }
 }
 
@@ -49,14 +49,14 @@ fn read_chain(
     t: &mut [u32],
     n: usize,
     m: usize,
-    u: &mut [u32],
-    c: u32,
+    c: &mut [u32],
+    used: u32,
 ) -> FormRead
-    requires { ⌜ Ready (now s) at (m + 1) c ⌝ }
-    ensures { λ r. ⌜ Continued (chainAt (now (s .entry)) at room) n m c (now (t .entry)) (now (u .entry)) r (now (t .exit)) (now (u .exit)) ⌝ }
+    requires { ⌜ Ready (now s) at (m + 1) used ⌝ }
+    ensures { λ r. ⌜ Continued (chainAt (now (s .entry)) at room) n m used (now (t .entry)) (now (c .entry)) r (now (t .exit)) (now (c .exit)) ⌝ }
 {
     tables::shift_up(t, n, m);
-    match read_parts(s, at, room, t, m + 1, u, c) {
+    match read_parts(s, at, room, t, m + 1, c, used) {
         FormsRead::No(number, place) => FormRead::No(number, place),
         FormsRead::Got(x, count) => {
             tables::put_record(t, n, formtable::CHAIN, count + 1, 0, 0);
@@ -72,18 +72,18 @@ fn read_parts(
     room: u32,
     t: &mut [u32],
     first: usize,
-    u: &mut [u32],
+    c: &mut [u32],
     cell: u32,
 ) -> FormsRead
     requires { ⌜ Ready (now s) from first cell ⌝ }
-    ensures { λ r. ⌜ FormsMet first cell (now (t .entry)) (now (u .entry)) r (now (t .exit)) (now (u .exit)) (partsAt (now (s .entry)) from room) ⌝ }
+    ensures { λ r. ⌜ FormsMet first cell (now (t .entry)) (now (c .entry)) r (now (t .exit)) (now (c .exit)) (partsAt (now (s .entry)) from room) ⌝ }
 {
     let mut at = from;
     let mut n = first;
-    let mut c = cell;
+    let mut used = cell;
     let mut count: u32 = 0;
     loop {
-        let x = match read_part(s, at, room, t, n, u, c) {
+        let x = match read_part(s, at, room, t, n, c, used) {
             FormRead::No(number, place) => return FormsRead::No(number, place),
             FormRead::Got(x) => x,
         };
@@ -94,7 +94,7 @@ fn read_parts(
             DotRead::Dot(a) => at = a,
         }
         n = x.forms;
-        c = x.cells;
+        used = x.cells;
     }
 }
 
@@ -105,27 +105,27 @@ fn read_part(
     room: u32,
     t: &mut [u32],
     n: usize,
-    u: &mut [u32],
-    c: u32,
+    c: &mut [u32],
+    used: u32,
 ) -> FormRead
-    requires { ⌜ Ready (now s) at n c ⌝ }
-    ensures { λ r. ⌜ FormMet n c (now (t .entry)) (now (u .entry)) r (now (t .exit)) (now (u .exit)) (partAt (now (s .entry)) at room) ⌝ }
+    requires { ⌜ Ready (now s) at n used ⌝ }
+    ensures { λ r. ⌜ FormMet n used (now (t .entry)) (now (c .entry)) r (now (t .exit)) (now (c .exit)) (partAt (now (s .entry)) at room) ⌝ }
 {
     let p = lexer::skip_blanks(s, at);
     let b = lexer::byte_at(s, p);
     if !marks::is_opening(b) {
-        return plain::read_plain(s, p, t, n, c);
+        return plain::read_plain(s, p, t, n, used);
     }
     if room == 0 {
         return FormRead::No(language::OPEN_MARKS, p);
     }
     match b {
-        b'[' => read_construct(s, p + 1, room - 1, t, n, u, c),
-        b'%' => plain::read_constant(s, p + 1, room - 1, t, n, u, c),
-        b'/' => read_prefix(formtable::INSERT, s, p + 1, room - 1, t, n, u, c),
-        b'@' => read_prefix(formtable::APPLY_ALL, s, p + 1, room - 1, t, n, u, c),
-        b'{' => read_bu(s, p + 1, room - 1, t, n, u, c),
-        _ => read_round(s, p + 1, room - 1, t, n, u, c),
+        b'[' => read_construct(s, p + 1, room - 1, t, n, c, used),
+        b'%' => plain::read_constant(s, p + 1, room - 1, t, n, c, used),
+        b'/' => read_prefix(formtable::INSERT, s, p + 1, room - 1, t, n, c, used),
+        b'@' => read_prefix(formtable::APPLY_ALL, s, p + 1, room - 1, t, n, c, used),
+        b'{' => read_bu(s, p + 1, room - 1, t, n, c, used),
+        _ => read_round(s, p + 1, room - 1, t, n, c, used),
     }
 }
 
@@ -136,13 +136,13 @@ fn read_construct(
     room: u32,
     t: &mut [u32],
     n: usize,
-    u: &mut [u32],
-    c: u32,
+    c: &mut [u32],
+    used: u32,
 ) -> FormRead
-    requires { ⌜ Ready (now s) at (n + 1) c ⌝ }
-    ensures { λ r. ⌜ FormMet n c (now (t .entry)) (now (u .entry)) r (now (t .exit)) (now (u .exit)) (constructAt (now (s .entry)) at room) ⌝ }
+    requires { ⌜ Ready (now s) at (n + 1) used ⌝ }
+    ensures { λ r. ⌜ FormMet n used (now (t .entry)) (now (c .entry)) r (now (t .exit)) (now (c .exit)) (constructAt (now (s .entry)) at room) ⌝ }
 {
-    match read_forms(s, at, room, t, n + 1, u, c) {
+    match read_forms(s, at, room, t, n + 1, c, used) {
         FormsRead::No(number, place) => FormRead::No(number, place),
         FormsRead::Got(x, count) => {
             tables::put_record(t, n, formtable::CONSTRUCT, count, 0, 0);
@@ -158,32 +158,32 @@ fn read_forms(
     room: u32,
     t: &mut [u32],
     first: usize,
-    u: &mut [u32],
+    c: &mut [u32],
     cell: u32,
 ) -> FormsRead
     requires { ⌜ Ready (now s) from first cell ⌝ }
-    ensures { λ r. ⌜ FormsMet first cell (now (t .entry)) (now (u .entry)) r (now (t .exit)) (now (u .exit)) (formsAt (now (s .entry)) from room) ⌝ }
+    ensures { λ r. ⌜ FormsMet first cell (now (t .entry)) (now (c .entry)) r (now (t .exit)) (now (c .exit)) (formsAt (now (s .entry)) from room) ⌝ }
 {
     let mut at = from;
     let mut n = first;
-    let mut c = cell;
+    let mut used = cell;
     let mut count: u32 = 0;
     loop {
-        let x = match read_form(s, at, room, t, n, u, c) {
+        let x = match read_form(s, at, room, t, n, c, used) {
             FormRead::No(number, place) => return FormsRead::No(number, place),
             FormRead::Got(x) => x,
         };
         count += 1;
         let e = x.next;
         n = x.forms;
-        c = x.cells;
+        used = x.cells;
         match marks::read_comma(s, e) {
             CommaRead::More(a) => at = a,
             CommaRead::Closed(next) => return FormsRead::Got(
                 Upto {
                     next,
                     forms: n,
-                    cells: c,
+                    cells: used,
                 },
                 count,
             ),
@@ -200,13 +200,13 @@ fn read_prefix(
     room: u32,
     t: &mut [u32],
     n: usize,
-    u: &mut [u32],
-    c: u32,
+    c: &mut [u32],
+    used: u32,
 ) -> FormRead
-    requires { ⌜ Ready (now s) at (n + 1) c × (7 ≤ kind) × (kind ≤ 8) ⌝ }
-    ensures { λ r. ⌜ FormMet n c (now (t .entry)) (now (u .entry)) r (now (t .exit)) (now (u .exit)) (prefixAt kind (now (s .entry)) at room) ⌝ }
+    requires { ⌜ Ready (now s) at (n + 1) used × (7 ≤ kind) × (kind ≤ 8) ⌝ }
+    ensures { λ r. ⌜ FormMet n used (now (t .entry)) (now (c .entry)) r (now (t .exit)) (now (c .exit)) (prefixAt kind (now (s .entry)) at room) ⌝ }
 {
-    match read_part(s, at, room, t, n + 1, u, c) {
+    match read_part(s, at, room, t, n + 1, c, used) {
         FormRead::No(number, place) => FormRead::No(number, place),
         FormRead::Got(x) => {
             tables::put_record(t, n, kind, 1, 0, 0);
@@ -222,20 +222,20 @@ fn read_bu(
     room: u32,
     t: &mut [u32],
     n: usize,
-    u: &mut [u32],
-    c: u32,
+    c: &mut [u32],
+    used: u32,
 ) -> FormRead
-    requires { ⌜ Ready (now s) at (n + 1) c ⌝ }
-    ensures { λ r. ⌜ FormMet n c (now (t .entry)) (now (u .entry)) r (now (t .exit)) (now (u .exit)) (buAt (now (s .entry)) at room) ⌝ }
+    requires { ⌜ Ready (now s) at (n + 1) used ⌝ }
+    ensures { λ r. ⌜ FormMet n used (now (t .entry)) (now (c .entry)) r (now (t .exit)) (now (c .exit)) (buAt (now (s .entry)) at room) ⌝ }
 {
-    let x = match read_part(s, at, room, t, n + 1, u, c) {
+    let x = match read_part(s, at, room, t, n + 1, c, used) {
         FormRead::No(number, place) => return FormRead::No(number, place),
         FormRead::Got(x) => x,
     };
     let e = x.next;
     let m = x.forms;
     let d = x.cells;
-    match plain::read_bound(s, e, room, u, d) {
+    match plain::read_bound(s, e, room, c, d) {
         ObjectRead::No(number, place) => FormRead::No(number, place),
         ObjectRead::Got(v, next, cells) => plain::put_bu(t, n, m, v, next, cells),
     }
@@ -248,13 +248,13 @@ fn read_round(
     room: u32,
     t: &mut [u32],
     n: usize,
-    u: &mut [u32],
-    c: u32,
+    c: &mut [u32],
+    used: u32,
 ) -> FormRead
-    requires { ⌜ Ready (now s) at (n + 1) c ⌝ }
-    ensures { λ r. ⌜ FormMet n c (now (t .entry)) (now (u .entry)) r (now (t .exit)) (now (u .exit)) (roundAt (now (s .entry)) at room) ⌝ }
+    requires { ⌜ Ready (now s) at (n + 1) used ⌝ }
+    ensures { λ r. ⌜ FormMet n used (now (t .entry)) (now (c .entry)) r (now (t .exit)) (now (c .exit)) (roundAt (now (s .entry)) at room) ⌝ }
 {
-    let x = match read_form(s, at, room, t, n, u, c) {
+    let x = match read_form(s, at, room, t, n, c, used) {
         FormRead::No(number, place) => return FormRead::No(number, place),
         FormRead::Got(x) => x,
     };
@@ -267,8 +267,8 @@ fn read_round(
             forms: m,
             cells: d,
         }),
-        TestRead::While(a) => read_while(s, a, room, t, n, m, u, d),
-        TestRead::Condition(a) => read_condition(s, a, room, t, n, m, u, d),
+        TestRead::While(a) => read_while(s, a, room, t, n, m, c, d),
+        TestRead::Condition(a) => read_condition(s, a, room, t, n, m, c, d),
         TestRead::No(number, place) => FormRead::No(number, place),
     }
 }
@@ -280,13 +280,13 @@ fn read_closed(
     room: u32,
     t: &mut [u32],
     n: usize,
-    u: &mut [u32],
-    c: u32,
+    c: &mut [u32],
+    used: u32,
 ) -> FormRead
-    requires { ⌜ Ready (now s) at n c ⌝ }
-    ensures { λ r. ⌜ FormMet n c (now (t .entry)) (now (u .entry)) r (now (t .exit)) (now (u .exit)) (closedAt (now (s .entry)) at room) ⌝ }
+    requires { ⌜ Ready (now s) at n used ⌝ }
+    ensures { λ r. ⌜ FormMet n used (now (t .entry)) (now (c .entry)) r (now (t .exit)) (now (c .exit)) (closedAt (now (s .entry)) at room) ⌝ }
 {
-    let x = match read_form(s, at, room, t, n, u, c) {
+    let x = match read_form(s, at, room, t, n, c, used) {
         FormRead::No(number, place) => return FormRead::No(number, place),
         FormRead::Got(x) => x,
     };
@@ -311,14 +311,14 @@ fn read_while(
     t: &mut [u32],
     n: usize,
     m: usize,
-    u: &mut [u32],
-    c: u32,
+    c: &mut [u32],
+    used: u32,
 ) -> FormRead
-    requires { ⌜ Ready (now s) at (m + 1) c ⌝ }
-    ensures { λ r. ⌜ Continued (whileAt (now (s .entry)) at room) n m c (now (t .entry)) (now (u .entry)) r (now (t .exit)) (now (u .exit)) ⌝ }
+    requires { ⌜ Ready (now s) at (m + 1) used ⌝ }
+    ensures { λ r. ⌜ Continued (whileAt (now (s .entry)) at room) n m used (now (t .entry)) (now (c .entry)) r (now (t .exit)) (now (c .exit)) ⌝ }
 {
     tables::shift_up(t, n, m);
-    match read_closed(s, at, room, t, m + 1, u, c) {
+    match read_closed(s, at, room, t, m + 1, c, used) {
         FormRead::No(number, place) => FormRead::No(number, place),
         FormRead::Got(x) => {
             tables::put_record(t, n, formtable::WHILE, 2, 0, 0);
@@ -335,14 +335,14 @@ fn read_condition(
     t: &mut [u32],
     n: usize,
     m: usize,
-    u: &mut [u32],
-    c: u32,
+    c: &mut [u32],
+    used: u32,
 ) -> FormRead
-    requires { ⌜ Ready (now s) at (m + 1) c ⌝ }
-    ensures { λ r. ⌜ Continued (conditionAt (now (s .entry)) at room) n m c (now (t .entry)) (now (u .entry)) r (now (t .exit)) (now (u .exit)) ⌝ }
+    requires { ⌜ Ready (now s) at (m + 1) used ⌝ }
+    ensures { λ r. ⌜ Continued (conditionAt (now (s .entry)) at room) n m used (now (t .entry)) (now (c .entry)) r (now (t .exit)) (now (c .exit)) ⌝ }
 {
     tables::shift_up(t, n, m);
-    match read_branches(s, at, room, t, m + 1, u, c) {
+    match read_branches(s, at, room, t, m + 1, c, used) {
         FormRead::No(number, place) => FormRead::No(number, place),
         FormRead::Got(x) => {
             tables::put_record(t, n, formtable::CONDITION, 3, 0, 0);
@@ -358,13 +358,13 @@ fn read_branches(
     room: u32,
     t: &mut [u32],
     n: usize,
-    u: &mut [u32],
-    c: u32,
+    c: &mut [u32],
+    used: u32,
 ) -> FormRead
-    requires { ⌜ Ready (now s) at n c ⌝ }
-    ensures { λ r. ⌜ BranchesMet n c (now (t .entry)) (now (u .entry)) r (now (t .exit)) (now (u .exit)) (branchesAt (now (s .entry)) at room) ⌝ }
+    requires { ⌜ Ready (now s) at n used ⌝ }
+    ensures { λ r. ⌜ BranchesMet n used (now (t .entry)) (now (c .entry)) r (now (t .exit)) (now (c .exit)) (branchesAt (now (s .entry)) at room) ⌝ }
 {
-    let x = match read_form(s, at, room, t, n, u, c) {
+    let x = match read_form(s, at, room, t, n, c, used) {
         FormRead::No(number, place) => return FormRead::No(number, place),
         FormRead::Got(x) => x,
     };
@@ -373,6 +373,6 @@ fn read_branches(
     let d = x.cells;
     match marks::read_mark(s, e, b';') {
         MarkRead::No(number, place) => FormRead::No(number, place),
-        MarkRead::Got(a) => read_closed(s, a, room, t, m, u, d),
+        MarkRead::Got(a) => read_closed(s, a, room, t, m, c, d),
     }
 }

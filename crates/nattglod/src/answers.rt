@@ -1,6 +1,7 @@
 // Answers by the numbers that they carry. Numbers not named are 0.
 ghost use mathlib.Core.Path.{_≡_};
 ghost use Prim.Native.Nat.{_-_, _≤_};
+ghost use Rattle.language.specs.Numbers.{objectLimit};
 ghost use Rattle.language.specs.Answers.{bare, at, counting};
 use language::Answer;
 
@@ -13,7 +14,7 @@ pub fn bare(number: u32) -> Answer
 
 // A refused text, with the place in it.
 pub fn at(number: u32, place: usize, text: u32) -> Answer
-    requires { ⌜ place ≤ 16384 ⌝ }
+    requires { ⌜ place ≤ objectLimit ⌝ }
     ensures { λ r. ⌜ r ≡ at number place text ⌝ }
 {
     Answer {

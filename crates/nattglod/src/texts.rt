@@ -1,7 +1,8 @@
 // The two texts of a run call, read one after the other into the lent tables, and then the run.
-ghost use Prim.Native.Nat.{_≤_};
+ghost use Prim.Native.Nat.{_*_, _≤_};
 ghost use mathlib.Core.Path.{_≡_};
 ghost use lib.ListN.{length};
+ghost use Rattle.language.specs.Numbers.{formLimit, definitionLimit};
 ghost use Rattle.nattglod.specs.Calls.{lends, WithinLimits, TextsAnswered};
 ghost use Rattle.nattglod.specs.Stages.{Small, MainAnswered, ObjectAnswered};
 use super::answers;
@@ -24,7 +25,7 @@ fn answer_main(
     v: Val,
     output: &mut [u8],
 ) -> Answer
-    requires { ⌜ (total ≤ 2048) × (many ≤ 128) × (used ≤ b .cells) ⌝ }
+    requires { ⌜ (total ≤ formLimit) × (many ≤ definitionLimit) × (used ≤ b .cells) ⌝ }
     ensures { λ r. ⌜ MainAnswered b (now (forms .entry)) total (now (definitions .entry)) many (now (c .entry)) used v (now (output .entry)) r (now (output .exit)) ⌝ }
 {
     let m = Meter {
@@ -73,7 +74,7 @@ fn answer_program(
     output: &mut [u8],
 ) -> Answer
     requires { ⌜ WithinLimits (length (now program)) (length (now object)) b (length (now forms)) (length (now c)) ⌝ }
-    requires { ⌜ length (now definitions) ≡ 512 ⌝ }
+    requires { ⌜ length (now definitions) ≡ 4 * definitionLimit ⌝ }
     ensures { λ r. ⌜ TextsAnswered (now (program .entry)) (now (object .entry)) b (lends (now (forms .entry)) (now (c .entry)) (now (output .entry))) r (now (output .exit)) ⌝ }
 {
     match programs::read_program(program, forms, c, definitions) {
@@ -94,7 +95,7 @@ fn answer_program(
 
 // Room for 128 definitions.
 fn definition_table() -> [u32; formtable::DEFINITION_TABLE_SIZE]
-    ensures { λ r. ⌜ length r ≡ 512 ⌝ }
+    ensures { λ r. ⌜ length r ≡ 4 * definitionLimit ⌝ }
 {
     [0; formtable::DEFINITION_TABLE_SIZE]
 }

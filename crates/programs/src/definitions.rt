@@ -1,8 +1,9 @@
 // Definitions: names and bodies one after the other, with a record of each in the table of definitions, [name lo, name hi,
 // root, place]; and whether a name is defined twice.
 ghost use mathlib.Core.Path.{_≡_};
-ghost use Prim.Native.Nat.{_+_, _≤_, _<_};
+ghost use Prim.Native.Nat.{_+_, _*_, _≤_, _<_};
 ghost use lib.ListN.{length};
+ghost use Rattle.language.specs.Numbers.{programLimit, definitionLimit, formTableSize};
 ghost use Rattle.language.specs.Reading.{readProgram};
 ghost use Rattle.programs.specs.Bodies.{bodyAt, placedAt, definitionsAt};
 ghost use Rattle.forms.specs.Readings.{Ready, FormMet};
@@ -16,15 +17,15 @@ use forms::Upto;
 use lexer::NameJudged;
 
 // Behind a name: the `=`, the form and the `;`.
-fn read_body(s: &[u8], at: usize, t: &mut [u32], n: usize, u: &mut [u32], c: u32) -> FormRead
-    requires { ⌜ Ready (now s) at n c ⌝ }
-    ensures { λ r. ⌜ FormMet n c (now (t .entry)) (now (u .entry)) r (now (t .exit)) (now (u .exit)) (bodyAt (now (s .entry)) at) ⌝ }
+fn read_body(s: &[u8], at: usize, t: &mut [u32], n: usize, c: &mut [u32], used: u32) -> FormRead
+    requires { ⌜ Ready (now s) at n used ⌝ }
+    ensures { λ r. ⌜ FormMet n used (now (t .entry)) (now (c .entry)) r (now (t .exit)) (now (c .exit)) (bodyAt (now (s .entry)) at) ⌝ }
 {
     let a = match forms::read_mark(s, at, b'=') {
         MarkRead::No(number, place) => return FormRead::No(number, place),
         MarkRead::Got(a) => a,
     };
-    let x = match forms::read_form(s, a, language::MARK_LIMIT, t, n, u, c) {
+    let x = match forms::read_form(s, a, language::MARK_LIMIT, t, n, c, used) {
         FormRead::No(number, place) => return FormRead::No(number, place),
         FormRead::Got(x) => x,
     };
@@ -43,7 +44,7 @@ fn read_body(s: &[u8], at: usize, t: &mut [u32], n: usize, u: &mut [u32], c: u32
 
 // Writes record k of the table of definitions: a packed name, its body's record and its place.
 fn put_definition(d: &mut [u32], k: usize, name: u64, root: usize, place: usize)
-    requires { ⌜ (root ≤ 8192) × (place ≤ 8192) ⌝ }
+    requires { ⌜ (root ≤ programLimit) × (place ≤ programLimit) ⌝ }
     ensures { λ _. ⌜ DefinitionPut k name root place (now (d .entry)) (now (d .exit)) ⌝ }
 {
     tables::put_record(
@@ -62,20 +63,20 @@ fn read_definition(
     p: usize,
     t: &mut [u32],
     n: usize,
-    u: &mut [u32],
-    c: u32,
+    c: &mut [u32],
+    used: u32,
     d: &mut [u32],
     k: usize,
 ) -> FormRead
-    requires { ⌜ Ready (now s) p n c ⌝ }
-    ensures { λ r. ⌜ PlacedMet n c k (now (t .entry)) (now (u .entry)) (now (d .entry)) r (now (t .exit)) (now (u .exit)) (now (d .exit)) (placedAt (now (s .entry)) p) ⌝ }
+    requires { ⌜ Ready (now s) p n used ⌝ }
+    ensures { λ r. ⌜ PlacedMet n used k (now (t .entry)) (now (c .entry)) (now (d .entry)) r (now (t .exit)) (now (c .exit)) (now (d .exit)) (placedAt (now (s .entry)) p) ⌝ }
 {
     let size = lexer::size_at(s, p);
     let name = match lexer::judge_name(s, p, size) {
         NameJudged::Not(number) => return FormRead::No(number, p),
         NameJudged::Is(name) => name,
     };
-    match read_body(s, p + size, t, n, u, c) {
+    match read_body(s, p + size, t, n, c, used) {
         FormRead::No(number, place) => FormRead::No(number, place),
         FormRead::Got(x) => {
             put_definition(d, k, name, n, p);
@@ -85,33 +86,33 @@ fn read_definition(
 }
 
 // Every definition of the text, up to its end.
-fn read_definitions(s: &[u8], t: &mut [u32], u: &mut [u32], d: &mut [u32]) -> DefinitionsRead
-    requires { ⌜ length (now s) ≤ 8192 ⌝ }
-    ensures { λ r. ⌜ DefinitionsMet (now (t .entry)) (now (u .entry)) (now (d .entry)) r (now (t .exit)) (now (u .exit)) (now (d .exit)) (definitionsAt (now (s .entry)) 0) ⌝ }
+fn read_definitions(s: &[u8], t: &mut [u32], c: &mut [u32], d: &mut [u32]) -> DefinitionsRead
+    requires { ⌜ length (now s) ≤ programLimit ⌝ }
+    ensures { λ r. ⌜ DefinitionsMet (now (t .entry)) (now (c .entry)) (now (d .entry)) r (now (t .exit)) (now (c .exit)) (now (d .exit)) (definitionsAt (now (s .entry)) 0) ⌝ }
 {
     let mut at = 0;
     let mut n = 0;
-    let mut c: u32 = 0;
+    let mut used: u32 = 0;
     let mut k = 0;
     loop {
         let p = lexer::skip_blanks(s, at);
         if p == s.len() {
-            return DefinitionsRead::Got(k, n, c);
+            return DefinitionsRead::Got(k, n, used);
         }
-        let x = match read_definition(s, p, t, n, u, c, d, k) {
+        let x = match read_definition(s, p, t, n, c, used, d, k) {
             FormRead::No(number, place) => return DefinitionsRead::No(number, place),
             FormRead::Got(x) => x,
         };
         at = x.next;
         n = x.forms;
-        c = x.cells;
+        used = x.cells;
         k += 1;
     }
 }
 
 // Whether an earlier definition has the name of definition i.
 fn is_earlier(d: &[u32], i: usize) -> bool
-    requires { ⌜ i < 128 ⌝ }
+    requires { ⌜ i < definitionLimit ⌝ }
     ensures { λ r. ⌜ Compared (now (d .entry)) i r ⌝ }
 {
     let lo = tables::at(d, i * 4);
@@ -128,7 +129,7 @@ fn is_earlier(d: &[u32], i: usize) -> bool
 
 // The place of the first of n names that an earlier definition has.
 fn find_twice(d: &[u32], n: usize) -> TwiceRead
-    requires { ⌜ n ≤ 128 ⌝ }
+    requires { ⌜ n ≤ definitionLimit ⌝ }
     ensures { λ r. ⌜ TwiceMet (now (d .entry)) n r ⌝ }
 {
     let mut i = 0;
@@ -141,14 +142,14 @@ fn find_twice(d: &[u32], n: usize) -> TwiceRead
     TwiceRead::Nowhere
 }
 
-// A whole program: its forms in `t`, its constants in the cells `u`, its definitions in `d`.
-pub fn read_program(s: &[u8], t: &mut [u32], u: &mut [u32], d: &mut [u32]) -> ProgramRead
-    requires { ⌜ (length (now s) ≤ 8192) × (length (now t) ≡ 8192) × (length (now d) ≡ 512) ⌝ }
-    ensures { λ r. ⌜ ProgramMet (now (s .entry)) (now (t .entry)) (now (u .entry)) (now (d .entry)) r (now (t .exit)) (now (u .exit)) (now (d .exit)) (readProgram (now (s .entry))) ⌝ }
+// A whole program: its forms in `t`, its constants in the cells `c`, its definitions in `d`.
+pub fn read_program(s: &[u8], t: &mut [u32], c: &mut [u32], d: &mut [u32]) -> ProgramRead
+    requires { ⌜ (length (now s) ≤ programLimit) × (length (now t) ≡ formTableSize) × (length (now d) ≡ 4 * definitionLimit) ⌝ }
+    ensures { λ r. ⌜ ProgramMet (now (s .entry)) (now (t .entry)) (now (c .entry)) (now (d .entry)) r (now (t .exit)) (now (c .exit)) (now (d .exit)) (readProgram (now (s .entry))) ⌝ }
 {
-    match read_definitions(s, t, u, d) {
+    match read_definitions(s, t, c, d) {
         DefinitionsRead::No(number, place) => ProgramRead::No(number, place),
-        DefinitionsRead::Got(k, n, c) => {
+        DefinitionsRead::Got(k, n, used) => {
             if language::FORM_LIMIT < n {
                 return ProgramRead::No(language::TOO_MANY, 0);
             }
@@ -157,7 +158,7 @@ pub fn read_program(s: &[u8], t: &mut [u32], u: &mut [u32], d: &mut [u32]) -> Pr
             }
             match find_twice(d, k) {
                 TwiceRead::At(place) => ProgramRead::No(language::NAME_TWICE, place),
-                TwiceRead::Nowhere => ProgramRead::Got(k, n, c),
+                TwiceRead::Nowhere => ProgramRead::Got(k, n, used),
             }
         }
     }

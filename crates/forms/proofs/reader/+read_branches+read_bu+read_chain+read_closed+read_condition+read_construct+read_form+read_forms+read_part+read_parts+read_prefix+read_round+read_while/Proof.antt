@@ -226,16 +226,16 @@ abbrev read-while-calls : ℕ → read-while-lts.Claims
 read-while-calls t = (shift-up-reads.Asked, shift-up-reads.Learnt, read-closed-below t, read-closed.Post, put-record-reads.Asked, put-record-reads.Learnt)
 
 abbrev read-forms-Inv-loop : read-forms-lts.InvT-loop
-read-forms-Inv-loop s from room t₀ first u₀ cell at₀ n₀ c₀ count₀ t u at n c count = Going formsAt s room from first cell t₀ u₀ at n c count t u
+read-forms-Inv-loop s from room t₀ first c₀ cell at₀ n₀ used₀ count₀ t c at n used count = Going formsAt s room from first cell t₀ c₀ at n used count t c
 
 abbrev read-forms-μ-loop : read-forms-lts.MeasureT-loop
-read-forms-μ-loop s from room t₀ first u₀ cell at₀ n₀ c₀ count₀ t u at n c count = length s - at
+read-forms-μ-loop s from room t₀ first c₀ cell at₀ n₀ used₀ count₀ t c at n used count = length s - at
 
 abbrev read-parts-Inv-loop : read-parts-lts.InvT-loop
-read-parts-Inv-loop s from room t₀ first u₀ cell at₀ n₀ c₀ count₀ t u at n c count = Going partsAt s room from first cell t₀ u₀ at n c count t u
+read-parts-Inv-loop s from room t₀ first c₀ cell at₀ n₀ used₀ count₀ t c at n used count = Going partsAt s room from first cell t₀ c₀ at n used count t c
 
 abbrev read-parts-μ-loop : read-parts-lts.MeasureT-loop
-read-parts-μ-loop s from room t₀ first u₀ cell at₀ n₀ c₀ count₀ t u at n c count = length s - at
+read-parts-μ-loop s from room t₀ first c₀ cell at₀ n₀ used₀ count₀ t c at n used count = length s - at
 
 read-branches-read-form-requires : (t : ℕ) → read-branches-lts.Need-read-form-requires (read-branches-calls t) (read-branches-at t) read-branches.Post
 read-branches-read-form-requires t c κs = search needs

@@ -7,10 +7,10 @@ use Rattle.programs.proofs.definitions.read_definitions.Statement.{stat
 use Rattle.programs.proofs.definitions.read_definitions.Tie as tie
 
 abbrev Inv-loop : tie.InvT-loop
-Inv-loop s t₀ u₀ d₀ at₀ n₀ c₀ k₀ t u d at n c k = Defining s t₀ u₀ d₀ at n c k t u d
+Inv-loop s t₀ c₀ d₀ at₀ n₀ used₀ k₀ t c d at n used k = Defining s t₀ c₀ d₀ at n used k t c d
 
 abbrev μ-loop : tie.MeasureT-loop
-μ-loop s t₀ u₀ d₀ at₀ n₀ c₀ k₀ t u d at n c k = length s - at
+μ-loop s t₀ c₀ d₀ at₀ n₀ used₀ k₀ t c d at n used k = length s - at
 
 pub read-definitions-spec : {M : Type 1} → statement M
 read-definitions-spec =
