@@ -13,7 +13,7 @@ use Rattle.cells.specs.Parts.{Headed, Tailed}
 use Rattle.cells.proofs.Reps.{same-refl, same-fewer, same-trans, rep-ext}
 use Rattle.language.specs.Meanings.{isRow, areRows, entryAt, columnAt}
 use Rattle.sequences.specs.Making.{Space}
-use Rattle.sequences.specs.Lines.{linkOver, Place, CopiedLine, sequenceFrom, Spreads, Spread}
+use Rattle.sequences.specs.Lines.{linkOver, Place, CopiedLine, sequenceFrom, Spreads, RowsSpread}
 use Rattle.sequences.proofs.Segments.{place-ext, Begun, begin, begun-next, begun-end}
 use Rattle.sequences.proofs.Transposing.{and-first, and-second, row-is}
 
@@ -57,7 +57,7 @@ pub record Spreading (C₀ : List ℕ) (v : Val) (n w p : ℕ) (C : List ℕ) (a
   pub len : length C ≡ length C₀
   pub means : (rs : Objs) → lengthOf rs ≡ n → areRows w rs ≡ true → Space C₀ p (w + w * n) → Rep C₀ p v (seq rs) → SpreadNow C₀ n w p rs C ahead left free
 
-pub spread-none : {C : List ℕ} {v : Val} {n w p : ℕ} → n ≡ 0 → Spread C v n w p p C
+pub spread-none : {C : List ℕ} {v : Val} {n w p : ℕ} → n ≡ 0 → RowsSpread C v n w p p C
 unfolding columnAt sequenceFrom
 spread-none {C} {v} {n} {w} {p} z = rw z (record { means = go })
   where
@@ -137,7 +137,7 @@ spread-last {C = C} {C′ = C′} {n = n} {w = w} {p = p} {free = free} {f = f} 
       same = same-trans l s (g .same);
     }
 
-pub spread-end : {C₀ C C′ : List ℕ} {v ahead row o : Val} {n w p left free f : ℕ} → (n ≡ 0 → ⊥) → left ≤ 1 → Spreading C₀ v n w p C ahead left free → Headed C ahead row → CopiedLine C row w free 0 o C′ → f ≡ (free + w) % 4294967296 → Spread C₀ v n w p f C′
+pub spread-end : {C₀ C C′ : List ℕ} {v ahead row o : Val} {n w p left free f : ℕ} → (n ≡ 0 → ⊥) → left ≤ 1 → Spreading C₀ v n w p C ahead left free → Headed C ahead row → CopiedLine C row w free 0 o C′ → f ≡ (free + w) % 4294967296 → RowsSpread C₀ v n w p f C′
 spread-end {w = w} {left = left} h l g hd cp y =
     let z : left ≡ 1 = omega (arith, g .some) in
     record { means = λ rs k a sp rv. let m = g .means rs k a sp rv in spread-last rs (m .todo) (m .long ∙ z) k (omega (arith, h)) (m .rows) (m .low) (omega (arith, rw z at (m .sum), mul-suc w 0)) (g .len) sp hd cp y (m .still) (m .same) (m .begun) }

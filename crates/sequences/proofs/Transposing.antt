@@ -15,7 +15,7 @@ use Rattle.cells.proofs.Reps.{same-refl, same-trans}
 use Rattle.cells.proofs.Places.{From, from-head, from-next}
 use Rattle.language.specs.Meanings.{isRow, areRows, columnAt, columnsAt}
 use Rattle.sequences.specs.Making.{Space, NewSequence, Rows, Columns}
-use Rattle.sequences.specs.Lines.{sequenceFrom, Spread, ColumnsListed}
+use Rattle.sequences.specs.Lines.{sequenceFrom, RowsSpread, ColumnsListed}
 
 pub and-first : (a b : Bool) → (a && b) ≡ true → a ≡ true
 and-first true b e = refl
@@ -124,7 +124,7 @@ pub columns-none : {C : List ℕ} {v r : Val} {n w p : ℕ} → w ≡ 0 → r �
 unfolding columnsAt
 columns-none {C} {n = n} {p = p} z e = record { means = λ rs k a sp rv. record { rep = rw (z, e) (rep-nil refl refl); same = same-refl C p } }
 
-pub columns-is : {C C₁ C₂ : List ℕ} {v r : Val} {n w p free : ℕ} → Spread C v n w p free C₁ → length C₁ ≡ length C → ColumnsListed C₁ p n w free r C₂ → Columns C v n w p r C₂
+pub columns-is : {C C₁ C₂ : List ℕ} {v r : Val} {n w p free : ℕ} → RowsSpread C v n w p free C₁ → length C₁ ≡ length C → ColumnsListed C₁ p n w free r C₂ → Columns C v n w p r C₂
 columns-is {C} {C₁} {C₂} {v} {r} {n} {w} {p} {free} s e t = record { means = go }
   where
     go : (rs : Objs) → lengthOf rs ≡ n → areRows w rs ≡ true → Space C p (w + w * n) → Rep C p v (seq rs) → NewSequence C p (w + w * n) (columnsAt 0 w rs) r C₂

@@ -49,7 +49,7 @@ pub record Spreads (C : List ℕ) (n w p : ℕ) (rs : Objs) (r : ℕ) (C′ : Li
   pub column : (j : ℕ) → j < w → Rep C′ r (sequenceFrom (p + j) n) (seq (columnAt j rs))
   pub same : Same C C′ p
 
-pub record Spread (C : List ℕ) (v : Val) (n w p r : ℕ) (C′ : List ℕ) : Type 0 where
+pub record RowsSpread (C : List ℕ) (v : Val) (n w p r : ℕ) (C′ : List ℕ) : Type 0 where
   pub means : (rs : Objs) → lengthOf rs ≡ n → areRows w rs ≡ true → Space C p (w + w * n) → Rep C p v (seq rs) → Spreads C n w p rs r C′
 
 -- the sequence of the w sequences that begin in the cells from `first` on

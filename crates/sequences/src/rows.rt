@@ -1,7 +1,7 @@
 // The columns of rows of equal length.
 ghost use mathlib.Core.Path.{_≡_};
 ghost use Prim.Native.Nat.{_+_, _%_};
-ghost use Rattle.sequences.specs.Lines.{sequenceFrom, Spread, ColumnsListed};
+ghost use Rattle.sequences.specs.Lines.{sequenceFrom, RowsSpread, ColumnsListed};
 ghost use Rattle.sequences.specs.Making.{Rows, Columns};
 use super::lines;
 use super::places;
@@ -37,7 +37,7 @@ fn further(p: u32, w: u32) -> u32
 // The n rows of v, one after the other in the cells from p on, each place leading to the one below it. Answers the next
 // free cell.
 fn spread(c: &mut [u32], v: Val, n: u32, w: u32, p: u32) -> u32
-    ensures { λ r. ⌜ Spread (now (c .entry)) v n w p r (now (c .exit)) ⌝ }
+    ensures { λ r. ⌜ RowsSpread (now (c .entry)) v n w p r (now (c .exit)) ⌝ }
 {
     if n == 0 {
         return p;
