@@ -1,4 +1,6 @@
 // Integers as values hold them: tag 0 and n for n, tag 1 and n for -(n + 1).
+#![tactic(auto)]
+
 ghost use Rattle.std.specs.Prelude.{◌≡◌, ◌+◌, ◌<◌, ◌≤◌, pos, neg_ℤ, ◌+ℤ◌, ◌-ℤ◌, ◌*ℤ◌};
 ghost use Rattle.std.proofs.Math.IntN.{sub_ℕ};
 ghost use Rattle.std.specs.Int.Signed.{quot_z};

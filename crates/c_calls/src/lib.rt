@@ -1,4 +1,6 @@
 // The calls open to programs in C, Rust and other languages: a slice is a pointer and a length.
+#![tactic(auto)]
+
 ghost use Rattle.nattglod.specs.Calls.{budgets, lends};
 ghost use Rattle.c_calls.specs.Told.{Told, RunTold};
 

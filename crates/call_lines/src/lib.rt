@@ -1,4 +1,6 @@
 // What stands around a run: the three lines of a call, the budgets in the first, and the line of six numbers.
+#![tactic(auto)]
+
 mod cutting;
 mod numerals;
 mod printing;

@@ -1,4 +1,6 @@
 // Values, and the cells that their sequences stand in: four numbers to a cell, [tag, next, lo, hi].
+#![tactic(auto)]
+
 ghost use Rattle.std.specs.Prelude.{◌≡◌, ◌-◌, ◌%◌, eqb};
 ghost use Rattle.cells.specs.Cells.{val_at, next_at, sequence_val, cell_put, free};
 ghost use Rattle.cells.specs.Parts.{first_of, Sized, Headed, Tailed, Nth, Paired, held_at, hold_at, Gathered};

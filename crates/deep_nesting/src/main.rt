@@ -1,6 +1,8 @@
 // The worst nesting of forms that a run can have: 256 names open, each body with 32 marks, and at each mark a form with a chain
 // in it. Each such run must end because the names are spent, within the stack that a program has. What is printed of a run shows
 // how deep it was: how it ended, the steps that it took, the names open at the end, and the cells that it made.
+#![tactic(auto)]
+
 ghost use Rattle.std.specs.Prelude.{◌<◌};
 
 use language::{Meter, Val};

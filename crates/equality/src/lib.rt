@@ -1,4 +1,6 @@
 // Whether two values stand for the same object, with a step for each pair of objects looked at.
+#![tactic(auto)]
+
 ghost use Rattle.equality.specs.Looking.{Looks, LooksAlong};
 
 use language::{Charge, Meter, Val};

@@ -1,4 +1,6 @@
 // Evaluation of linked forms on cells, by the definition of the metered run.
+#![tactic(auto)]
+
 pub mod alone;
 pub mod cycle;
 pub mod records;

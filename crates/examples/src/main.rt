@@ -1,5 +1,7 @@
 // Prints the name of each example of data/examples.txt, and what fprun replies to it. An example is four lines: a name, the
 // budgets, the program and the object. Then the same of data/inputs.cases, where inputs of every shape stand.
+#![tactic(auto)]
+
 ghost use Rattle.std.specs.Prelude.{◌≤◌, length};
 ghost use Rattle.examples.specs.Ahead.{Further};
 

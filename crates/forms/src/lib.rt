@@ -1,4 +1,6 @@
 // Forms in texts: read into the form table, their constants into cells; and the marks between them.
+#![tactic(auto)]
+
 mod marks;
 mod plain;
 mod reader;

@@ -1,5 +1,7 @@
 // How a program lies in the form table, and its definitions in a table beside it, is said in specs/; the readers, the writer
 // and the link pass cite it.
+#![tactic(auto)]
+
 ghost use Rattle.std.specs.Prelude.{◌≡◌};
 ghost use Rattle.formtable.specs.Encoding.{named};
 

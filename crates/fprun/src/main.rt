@@ -1,4 +1,6 @@
 // Reads a call from standard input, three lines, and prints the reply.
+#![tactic(auto)]
+
 ghost use Rattle.std.specs.Prelude.{◌≡◌, length};
 
 // One byte more than an input may have, so that a longer one shows.

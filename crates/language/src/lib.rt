@@ -1,4 +1,6 @@
 // The records that definitions and code share. Their fields are read by the definitions in specs/.
+#![tactic(auto)]
+
 ghost use Rattle.std.specs.Prelude.{◌<◌, ◌≡◌};
 ghost use Rattle.language.specs.Charging.{step_charge, cells_charge, name_charge, name_given};
 

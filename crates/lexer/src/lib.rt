@@ -1,5 +1,7 @@
 // The word reader: where the next word, number or mark of a text stands, and what it is where an object, a part or a
 // defined name may stand.
+#![tactic(auto)]
+
 mod classes;
 pub mod codes;
 mod judging;

@@ -1,5 +1,7 @@
 // The link pass: a raw form table is made ready for evaluation, in place and from the back. A raw record is
 // [kind, arity, lo, hi]; a linked one has the record of the part to evaluate next, times 32, added to its kind.
+#![tactic(auto)]
+
 ghost use Rattle.std.specs.Prelude.{◌≡◌, ◌+◌, ◌*◌, ◌/◌, ◌%◌, ◌<◌, get_or};
 ghost use Rattle.linker.specs.Roots.{link_set};
 ghost use Rattle.linker.specs.Indexing.{Indexed};

@@ -1,4 +1,6 @@
 // The calls open to others.
+#![tactic(auto)]
+
 mod answers;
 mod calls;
 mod ends;

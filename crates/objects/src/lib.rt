@@ -1,4 +1,6 @@
 // Objects in texts: read into cells, and written from them.
+#![tactic(auto)]
+
 mod integers;
 mod reader;
 mod writer;

@@ -1,4 +1,6 @@
 // Words of up to 12 letters and digits as numbers of 64 bits, and back.
+#![tactic(auto)]
+
 ghost use Rattle.std.specs.Prelude.{◌≡◌, ◌+◌, ◌≤◌, ◌<◌, length};
 ghost use Rattle.std.proofs.Math.Seq.{slice};
 ghost use Rattle.packing.specs.Packing.{letter_of, packed, byte_of, Unpacked};

@@ -1,4 +1,6 @@
 // The words of document 01's table on cells. A word gives bottom before it asks for cells, and asks for all of them at once.
+#![tactic(auto)]
+
 ghost use Rattle.primitives.specs.Leaves.{Coded, CodedPair, CodedTwo};
 
 use language::{Meter, Val};

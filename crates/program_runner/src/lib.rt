@@ -1,4 +1,6 @@
 // A program that stands in the tables as it was read is linked, and its main is applied to a value.
+#![tactic(auto)]
+
 ghost use Rattle.std.specs.Prelude.{◌≡◌};
 ghost use Rattle.language.specs.Bytes.{bytes};
 ghost use Rattle.linker.specs.Roots.{root_in};

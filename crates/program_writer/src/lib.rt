@@ -1,4 +1,6 @@
 // Programs as text: written from the form table, the constants from cells, the names from the table of definitions.
+#![tactic(auto)]
+
 mod definitions;
 mod forms;
 mod marks;

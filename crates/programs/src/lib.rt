@@ -1,4 +1,6 @@
 // Programs in texts: read into the form table and the cells, with a table of the definitions.
+#![tactic(auto)]
+
 mod definitions;
 
 pub use definitions::read_program;

@@ -1,4 +1,6 @@
 // The readers of programs and objects for a program in another language, under names of C. The tables are the caller's.
+#![tactic(auto)]
+
 ghost use Rattle.std.specs.Prelude.{◌≡◌, length};
 ghost use Rattle.reading_export.specs.Numbers.{joined, program_call, object_call};
 

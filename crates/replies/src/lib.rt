@@ -1,4 +1,6 @@
 // What fprun replies to an input: from its bytes to the bytes that are printed.
+#![tactic(auto)]
+
 mod answering;
 mod buffers;
 

@@ -1,6 +1,8 @@
 // Reads each text of the file `texts.cases` and writes it back: one line for each, with what was written or the refusal.
 // A case is two numbers of four bytes, the lowest first (1 for a program or 2 for an object; the length), and the text. In
 // `short.cases` a third number says how many bytes may be written.
+#![tactic(auto)]
+
 mod cases;
 mod lines;
 mod rereading;

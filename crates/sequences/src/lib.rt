@@ -1,5 +1,6 @@
 // Sequences made in new cells. What is read is read from the front, place after place. Places that keep their order are
 // written from the first to the last, each leading to a cell further on; others are put before those made already.
+#![tactic(auto)]
 
 mod lines;
 mod orders;

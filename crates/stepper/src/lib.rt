@@ -1,5 +1,7 @@
 // A reader that keeps the text and its place. Each function takes the reader apart and calls the word reader on the text
 // and the place.
+#![tactic(auto)]
+
 ghost use Rattle.std.specs.Prelude.{◌≡◌};
 ghost use Rattle.stepper.specs.Steps.{next_of, behind_word};
 

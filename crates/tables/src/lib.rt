@@ -1,4 +1,6 @@
 // Records of four numbers in a lent slice. Past the end every number reads as 0, and nothing is written.
+#![tactic(auto)]
+
 ghost use Rattle.std.specs.Prelude.{◌≡◌, length, get_or, set, replicate};
 ghost use Rattle.tables.specs.Tables.{record_put, shifted};
 

@@ -1,1 +1,2 @@
 // Statements are in specs/, their proofs in proofs/.
+#![tactic(auto)]

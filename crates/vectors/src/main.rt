@@ -1,6 +1,8 @@
 // Runs the cases of data/run.cases, which another implementation of document 01 answered, and compares every number, byte
 // and table entry. Those of data/wrong.cases, but the first and the last, expect one thing each that is not so: each has to be
 // found to differ, there.
+#![tactic(auto)]
+
 mod buffers;
 mod cases;
 mod comparing;

@@ -1,5 +1,7 @@
 // Prints place and length of each word, number and mark of standard input, one to a line, and at the end the text's length
 // and 0. It reads up to 16,384 bytes.
+#![tactic(auto)]
+
 ghost use Rattle.std.specs.Prelude.{◌≡◌, length, ltb};
 
 use language::Token;
