@@ -10,21 +10,21 @@ pub use numerals::read_budgets;
 pub use printing::{print_answer, print_numbers, print_other};
 
 // Three lines and nothing else: where each one's line feed stands; or a text of another shape.
-#[derive(Drop)]
+#[derive(Clone, Copy)]
 pub enum Lines {
     Three(usize, usize, usize),
     Other,
 }
 
 // A numeral's value; or something else.
-#[derive(Drop)]
+#[derive(Clone, Copy)]
 pub enum Numeral {
     Is(u32),
     Not,
 }
 
 // The budgets of a run; or something else.
-#[derive(Drop)]
+#[derive(Clone, Copy)]
 pub enum Budgets {
     Are(language::Meter),
     Not,

@@ -6,7 +6,7 @@ ghost use Rattle.equality.specs.Looking.{Looks, LooksAlong};
 use language::{Charge, Meter, Val};
 
 // No difference came, one came, or the steps were spent before.
-#[derive(Drop)]
+#[derive(Clone, Copy)]
 pub enum Compared {
     Equal(Meter),
     Differ(Meter),

@@ -13,7 +13,7 @@ const PLACES: u64 = 4096;
 pub const RING_SIZE: usize = 16384;
 
 // What a question says, 1 for T and 0 for F, or that the run stops; and what is left of the budgets.
-#[derive(Drop)]
+#[derive(Clone, Copy)]
 pub enum Asked {
     Says(u32, Meter),
     Stop(u32, Meter),

@@ -9,7 +9,7 @@ pub use marks::read_mark;
 pub use reader::read_form;
 
 // Where reading goes on, and how many forms and cells there are then.
-#[derive(Drop)]
+#[derive(Clone, Copy)]
 pub struct Upto {
     pub next: usize,
     pub forms: usize,
@@ -17,14 +17,14 @@ pub struct Upto {
 }
 
 // The place behind a mark; or a refusal's number and place.
-#[derive(Drop)]
+#[derive(Clone, Copy)]
 pub enum MarkRead {
     Got(usize),
     No(u32, usize),
 }
 
 // Whether a dot follows a part: the place behind it.
-#[derive(Drop)]
+#[derive(Clone, Copy)]
 pub enum DotRead {
     Dot(usize),
     Nothing,
@@ -32,7 +32,7 @@ pub enum DotRead {
 
 // What follows a form of `[ ]`, with the place behind it: a comma and so another form, or the `]`; or a refusal's number
 // and place.
-#[derive(Drop)]
+#[derive(Clone, Copy)]
 pub enum CommaRead {
     More(usize),
     Closed(usize),
@@ -41,7 +41,7 @@ pub enum CommaRead {
 
 // What follows the first form in `( )`, with the place behind it: the `)`, the `?` of a loop, the `->` of a condition; or
 // a refusal's number and place.
-#[derive(Drop)]
+#[derive(Clone, Copy)]
 pub enum TestRead {
     Closed(usize),
     While(usize),
@@ -50,14 +50,14 @@ pub enum TestRead {
 }
 
 // A form was read; or a refusal's number and place.
-#[derive(Drop)]
+#[derive(Clone, Copy)]
 pub enum FormRead {
     Got(Upto),
     No(u32, usize),
 }
 
 // Forms were read one behind the other, so many of them; or a refusal's number and place.
-#[derive(Drop)]
+#[derive(Clone, Copy)]
 pub enum FormsRead {
     Got(Upto, u32),
     No(u32, usize),

@@ -50,7 +50,7 @@ pub const HALF: u64 = 2147483648;
 pub const LARGEST: u64 = 2147483647;
 
 // What is left of each budget of a run.
-#[derive(Drop)]
+#[derive(Clone, Copy)]
 pub struct Meter {
     pub steps: u32,
     pub names: u32,
@@ -58,7 +58,7 @@ pub struct Meter {
 }
 
 // What was asked for is taken, or the budget is spent and the meter is as it was.
-#[derive(Drop)]
+#[derive(Clone, Copy)]
 pub enum Charge {
     Granted(Meter),
     Spent(Meter),
@@ -113,7 +113,7 @@ impl Meter {
 }
 
 // An answer's six numbers, in the order of the answer table.
-#[derive(Drop)]
+#[derive(Clone, Copy)]
 pub struct Answer {
     pub number: u32,
     pub place: u32,
@@ -188,7 +188,7 @@ pub const OBJECT_TEXT: u32 = 2;
 
 // An object as code holds it. The tag says what the word is: 0 an integer from 0 up, 1 a negative integer (the word is
 // one less than its size), 2 a symbol packed into a number, 3 a sequence (0 for the empty one, else its first cell and one, and its length times 2^32).
-#[derive(Drop)]
+#[derive(Clone, Copy)]
 pub struct Val {
     pub tag: u32,
     pub word: u64,
@@ -210,7 +210,7 @@ pub const SEQUENCE: u32 = 3;
 pub const TAGS: u32 = 4;
 
 // A word, number or mark of a text: its first byte and how many bytes it has.
-#[derive(Drop)]
+#[derive(Clone, Copy)]
 pub struct Token {
     pub place: usize,
     pub length: usize,

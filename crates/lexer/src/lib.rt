@@ -19,7 +19,7 @@ pub use reader::{next_word, size_at, skip_blanks};
 pub use vocabulary::{cell_rule, find_word, word_byte, word_length};
 
 // A class of bytes.
-#[derive(Drop)]
+#[derive(Clone, Copy)]
 pub enum Class {
     Blank,
     Digit,
@@ -32,14 +32,14 @@ pub enum Class {
 }
 
 // What stands where an object may stand: an atom, or the number of the answer that refuses it.
-#[derive(Drop)]
+#[derive(Clone, Copy)]
 pub enum AtomJudged {
     Is(language::Val),
     Not(u32),
 }
 
 // What stands where a part may stand: a selector, a word of the table by its place there, a name (packed); or the refusal.
-#[derive(Drop)]
+#[derive(Clone, Copy)]
 pub enum PartJudged {
     Select(u32),
     SelectRight(u32),
@@ -49,7 +49,7 @@ pub enum PartJudged {
 }
 
 // What stands where a defined name may stand: the name (packed), or the refusal.
-#[derive(Drop)]
+#[derive(Clone, Copy)]
 pub enum NameJudged {
     Is(u64),
     Not(u32),

@@ -43,7 +43,7 @@ fn walk(t: &[u32], start: u32, n: u32) -> u32
 }
 
 // The last of n forms, and their end.
-#[derive(Drop)]
+#[derive(Clone, Copy)]
 struct Turned {
     last: u32,
     rest: u32,

@@ -11,7 +11,7 @@ pub use writer::{put_text, walk_object, write_object};
 
 // What was read: the value, the place behind it and the number of the next free cell; or the number and the place of
 // the answer that refuses the text.
-#[derive(Drop)]
+#[derive(Clone, Copy)]
 pub enum ObjectRead {
     Got(language::Val, usize, u32),
     No(u32, usize),
@@ -19,7 +19,7 @@ pub enum ObjectRead {
 
 // What was read of one place of a sequence, with the place behind it and the number of the next free cell: a comma
 // follows it and so another place, or the `>`; or the refusal.
-#[derive(Drop)]
+#[derive(Clone, Copy)]
 pub enum PlaceRead {
     More(usize, u32),
     Last(usize, u32),
@@ -28,7 +28,7 @@ pub enum PlaceRead {
 
 // What became of writing: the place behind what was written; or no room for a byte (25), or a 33rd open mark (26),
 // whichever comes first from the left.
-#[derive(Drop)]
+#[derive(Clone, Copy)]
 pub enum Written {
     Done(usize),
     Short,

@@ -6,7 +6,7 @@ ghost use Rattle.std.proofs.Math.Seq.{slice};
 ghost use Rattle.packing.specs.Packing.{letter_of, packed, byte_of, Unpacked};
 
 // How a packed word is written.
-#[derive(Drop)]
+#[derive(Clone, Copy)]
 pub enum Case {
     Upper,
     Lower,

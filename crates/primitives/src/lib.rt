@@ -20,21 +20,21 @@ pub use shapes::truth_of;
 
 // How an application ends: with a value, or with the answer table's number of why it stopped (21 bottom; 22, 23, 24 a
 // spent budget), and what is left of the budgets.
-#[derive(Drop)]
+#[derive(Clone, Copy)]
 pub enum Ended {
     Done(Val, Meter),
     Stop(u32, Meter),
 }
 
 // What is read where a pair is asked for.
-#[derive(Drop)]
+#[derive(Clone, Copy)]
 pub enum Two {
     Both(Val, Val),
     Other,
 }
 
 // Cells that were asked for: the first one's number and the meter without them, or too few are left.
-#[derive(Drop)]
+#[derive(Clone, Copy)]
 pub enum Reserved {
     At(u32, Meter),
     Short(Meter),

@@ -9,7 +9,7 @@ mod rereading;
 
 // What became of a text: it was written back, so many bytes; it was refused, with the answer's number and place; or what
 // was read has no room in the output, or too many marks.
-#[derive(Drop)]
+#[derive(Clone, Copy)]
 pub enum Reread {
     Back(usize),
     Refused(u32, usize),

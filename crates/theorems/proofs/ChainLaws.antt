@@ -83,6 +83,7 @@ module _ (e : Edition) (Q : Prog) where
   alone f x = record { fwd = to; bwd = back }
     where
       to : Sub e Q Less (just (chain (f & stop)) x) (just f x)
+      to d _ _ c (chain_in (parts-bottom x)) = elim x [ ]
       to d r s c (chain_in (parts_go parts-stop E)) = less e Q E (omega arith) (omega arith) (omega arith)
 
       back : Sub e Q Any (just f x) (just (chain (f & stop)) x)
@@ -90,6 +91,8 @@ module _ (e : Edition) (Q : Prog) where
 
   -- Law 5: `f.[%x,g]` and `{f,x}.g`.
   root5_fwd : (f g : Form) (a : Obj) (fs : Forms) (x : Obj) → Sub e Q Less (parts (f & construct (constant a & g & stop) & fs) x) (parts (bu f a & g & fs) x)
+  root5_fwd f g a fs x _ _ _ _ (parts-bottom (parts_go D (construct-bottom (items_bottom E)))) = elim E [ ]
+  root5_fwd f g a fs x _ _ _ _ (parts-bottom (parts_go D (construct-bottom (items_late constant_in (items_late _ E))))) = elim E [ ]
   root5_fwd f g a fs x d r s c (parts-bottom (parts-bottom D)) = less e Q (parts-bottom (parts-bottom D)) (omega arith) (omega arith) (omega arith)
   root5_fwd f g a fs x d r s c (parts-bottom (parts_go D (construct-bottom (items_late constant_in (items_bottom G))))) =
       less e Q (parts-bottom (parts_go D G)) (omega arith) (omega arith) (omega arith)
@@ -120,20 +123,20 @@ module _ (e : Edition) (Q : Prog) where
     steps : s' ≤ s
     cells : c' ≤ c
 
-  choice_object : {d : ℕ} {g : Form} {j : ℕ} {gs : Forms} {y : Obj} {vs : Objs} {s c : ℕ} → Choice g j gs
+  choice_object : {g : Form} {d : ℕ} {j : ℕ} {gs : Forms} {y : Obj} {vs : Objs} {s c : ℕ} → Choice g j gs
       → Ends e Q d (items gs y) (object (seq vs)) s c → Got d g y j vs s c
   choice_object (here h) (items_go D I) = record { v = _; d' = _; s' = _; c' = _; ends = D; at = refl; names = omega arith; steps = omega arith; cells = omega arith }
-  choice_object (there h k) (items_go D I) =
-      let G = choice_object k I in
+  choice_object {d = d} (there h k) (items_go {d = d₁} {d' = d₂} D I) =
+      let G = choice_object {d = d₂} k I in
       record { v = G.v; d' = G.d'; s' = G.s'; c' = G.c'; ends = G.ends; at = G.at; names = omega (arith, G.names); steps = omega (arith, G.steps); cells = omega (arith, G.cells) }
 
-  choice_bottom : {d : ℕ} {g : Form} {j : ℕ} {gs : Forms} {y : Obj} {s c : ℕ} → Choice g j gs → Ends e Q d (items gs y) bottom s c
+  choice_bottom : {g : Form} {d : ℕ} {j : ℕ} {gs : Forms} {y : Obj} {s c : ℕ} → Choice g j gs → Ends e Q d (items gs y) bottom s c
       → Better e Q Less d (just g y) bottom s c
   choice_bottom (here h) (items_bottom D) = less e Q D (omega arith) (omega arith) (omega arith)
   choice_bottom (here h) (items_late D I) = no_bottoms e Q _ h I
   choice_bottom (there h k) (items_bottom D) = no_bottom e Q h D
-  choice_bottom (there h k) (items_late D I) =
-      let B = choice_bottom k I in
+  choice_bottom (there h k) (items_late {d = d} {d' = d'} D I) =
+      let B = choice_bottom {d = d'} k I in
       less e Q B.ends (omega (arith, B.rel.names)) (omega (arith, B.rel.steps)) (omega (arith, B.rel.cells))
 
   record Back (gs : Forms) (y v : Obj) (j : ℕ) : Type 0 where
@@ -233,6 +236,7 @@ module _ (e : Edition) (Q : Prog) where
 
   root10_fwd : (f : Form) (gs fs : Forms) (x : Obj)
       → Sub e Q Less (parts (word (op Op.apndl) & construct (f & construct gs & stop) & fs) x) (parts (construct (f & gs) & fs) x)
+  root10_fwd f gs fs x _ _ _ _ (parts-bottom (parts_go D (construct-bottom (items_late E (items_late _ I))))) = elim I [ ]
   root10_fwd f gs fs x d r s c (parts-bottom (parts-bottom D)) = less e Q (parts-bottom D) (omega arith) (omega arith) (omega arith)
   root10_fwd f gs fs x d r s c (parts-bottom (parts_go D (construct-bottom (items_bottom E)))) =
       less e Q (parts_go D (construct-bottom (items_bottom E))) (omega arith) (omega arith) (omega arith)

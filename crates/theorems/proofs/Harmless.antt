@@ -83,5 +83,6 @@ module _ (e : Edition) (Q : Prog) where
   no_bottom {f = f} {x = x} h D = object-bottom e Q (det (calm f x h).ends D)
 
   pub no_bottoms : {X : Type 0} {d : ℕ} {x : Obj} {s c : ℕ} (fs : Forms) → all_harmless fs ≡ true → Ends e Q d (items fs x) bottom s c → X
+  no_bottoms stop h x = elim x [ ]
   no_bottoms (f & fs) h (items_bottom D) = no_bottom (and_both (harmless f) (all_harmless fs) h).0 D
-  no_bottoms (f & fs) h (items_late D E) = no_bottoms fs (and_both (harmless f) (all_harmless fs) h).1 E
+  no_bottoms (f & fs) h (items_late {d = d} {d' = d'} D E) = no_bottoms {d = d'} fs (and_both (harmless f) (all_harmless fs) h).1 E

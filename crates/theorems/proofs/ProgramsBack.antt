@@ -1,12 +1,14 @@
 -- What is written of a well-formed program reads back.
-use mathlib.Core.Path.{◌≡◌, refl, ap}
+use mathlib.Core.Path.{◌≡◌, refl, ap, sym, subst}
 use mathlib.Core.List.{List, [], ◌∷◌, ◌++◌}
-use Prim.Native.Nat.{ℕ, ◌+◌, ◌*◌, ◌≤◌, ◌<◌}
+use mathlib.Core.Bool.{false, cond}
+use lib.Dec.{eqb}
+use Prim.Native.Nat.{ℕ, suc, ◌+◌, ◌*◌, ◌≤◌, ◌<◌}
 use native.Mathlib.Omega.{arith}
 use borrow.Author.Tests.{eq-eqb, ne_eqb, le-ltb}
 use lib.ListN.{length, drop, length-append, length-drop}
 use Rattle.language.specs.Forms.{name, Def, Prog, forms_of}
-use Rattle.language.specs.Tokens.{is_word_byte}
+use Rattle.language.specs.Tokens.{is_word_byte, place_from}
 use Rattle.language.specs.Judging.{judge_name}
 use Rattle.language.specs.Reading.{Got, got, and_then, as_judged, word_at, mark, read_form, Placed, program_of, definition_at, read_definitions, none_twice, within_limits, read_program}
 use Rattle.language.specs.Writing.{write_form, write_program, marks_of, marks_of_program}
@@ -52,6 +54,18 @@ placed : ℕ → Prog → List Placed
 placed at [] = []
 placed at (d ∷ ds) = record { place = at; def = d } ∷ placed (behind at d) ds
 
+-- a definition where one begins, and the others behind it
+definitions_more : (D : Placed) (ds : List Placed) (s : List ℕ) (at j e₁ e₂ : ℕ) → place_from s at ≡ at → eqb at (length s) ≡ false →
+    and_then (as_judged s at (judge_name (word_at s at))) (λ w e. definition_at j s at w e) ≡ got D e₁ → read_definitions j s e₁ ≡ got ds e₂ →
+    read_definitions (suc j) s at ≡ got (D ∷ ds) e₂
+unfolding read_definitions
+definitions_more D ds s at j e₁ e₂ p n g r = subst (λ (q : ℕ). from q ≡ got (D ∷ ds) e₂) (sym p) (rw (n, g, and_then, r))
+  where
+    from : ℕ → Got (List Placed)
+    from q =
+        cond (eqb q (length s)) (got [] q)
+            (and_then (and_then (as_judged s q (judge_name (word_at s q))) (λ w e. definition_at j s q w e)) (λ d e. and_then (read_definitions j s e) (λ ds' e'. got (d ∷ ds') e')))
+
 definitions_back : (P : Prog) (s : List ℕ) (at k : ℕ) → AreDefinitions P → marks_of_program P ≤ 32 → drop at s ≡ write_program P → at ≤ length s → 3 * length (write_program P) < k →
     read_definitions k s at ≡ got (placed at P) (length s)
 unfolding write_program read_definitions placed behind
@@ -77,7 +91,7 @@ definitions_back (d ∷ ds) s at k a m h n b =
     let h₁ = drop_past s at w (61 ∷ (v ++ 59 ∷ l)) h in
     let h₂ = drop_past s (e₁ + 1) v (59 ∷ l) (drop_one s e₁ 61 (v ++ 59 ∷ l) h₁) in
     let r = definitions_back ds s (e₂ + 1) i.0 a.2 (omega arith) (drop_one s e₂ 59 l h₂) (omega arith) (omega (arith, i.1)) in
-    rw (i.1, p, ne_eqb at (length s) (omega (arith, x.long)), g, and_then, r)
+    rw i.1 (definitions_more (record { place = at; def = d }) (placed (behind at d) ds) s at i.0 (e₂ + 1) (length s) p (ne_eqb at (length s) (omega (arith, x.long))) g r)
 
 placed-defs : (at : ℕ) (P : Prog) → program_of (placed at P) ≡ P
 unfolding placed

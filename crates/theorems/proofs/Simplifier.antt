@@ -57,6 +57,7 @@ in_laws law10 = later (later (later (later (later (later (later (later (later fi
 in_laws law11 = later (later (later (later (later (later (later (later (later (later first)))))))))
 
 no_law : {l : Law} {ls : List Law} (i : ℕ) (P : Prog) → In l ls → lowest ls i P ≡ none → apply_law l i P ≡ none
+no_law {l} {ls = []} i P x u = elim x [ ]
 no_law {l} {ls = k ∷ ls} i P first u = (both-none (apply_law l i P) (lowest ls i P) u).0
 no_law {l} {ls = k ∷ ls} i P (later h) u = no_law i P h (both-none (apply_law k i P) (lowest ls i P) u).1
 

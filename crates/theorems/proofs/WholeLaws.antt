@@ -14,6 +14,7 @@ use Rattle.theorems.proofs.Implies.{less, any, ImpF, object-bottom, same_object,
 module _ (e : Edition) (Q : Prog) where
   -- Law 9: a condition whose test is %T or %F.
   root9T_fwd : (y : Obj) (f g : Form) → truth_of y ≡ isT → (x : Obj) → Sub e Q Less (just (condition (constant y) f g) x) (just f x)
+  root9T_fwd y f g h x d _ _ c (condition-bottom E) = elim E [ ]
   root9T_fwd y f g h x d r s c (condition_no constant_in t) = T_no e Q h t
   root9T_fwd y f g h x d r s c (condition_T constant_in t E) = less e Q E (omega arith) (omega arith) (omega arith)
   root9T_fwd y f g h x d r s c (condition-F constant_in t E) = T_F e Q h t
@@ -22,6 +23,7 @@ module _ (e : Edition) (Q : Prog) where
   root9T y f g h x = record { fwd = root9T_fwd y f g h x; bwd = λ d r s c E. any e Q (condition_T constant_in h E) }
 
   root9F_fwd : (y : Obj) (f g : Form) → truth_of y ≡ isF → (x : Obj) → Sub e Q Less (just (condition (constant y) f g) x) (just g x)
+  root9F_fwd y f g h x d _ _ c (condition-bottom E) = elim E [ ]
   root9F_fwd y f g h x d r s c (condition_no constant_in t) = F_no e Q h t
   root9F_fwd y f g h x d r s c (condition_T constant_in t E) = T_F e Q t h
   root9F_fwd y f g h x d r s c (condition-F constant_in t E) = less e Q E (omega arith) (omega arith) (omega arith)
@@ -62,6 +64,7 @@ module _ (e : Edition) (Q : Prog) where
   two_go' H F o p q = two_go H F o p q
 
   two : {d : ℕ} {f h : Form} {x : Obj} {r : Result} {s c : ℕ} → Ends e Q d (just (chain (f & h & stop)) x) r s c → Two f h x d r s c
+  two (chain_in (parts-bottom (parts-bottom H))) = elim H [ ]
   two (chain_in (parts-bottom (parts_go parts-stop H))) = two_bottom' H (omega arith) (omega arith) (omega arith)
   two (chain_in (parts_go (parts_go parts-stop H) F)) = two_go' H F (omega arith) (omega arith) (omega arith)
 
@@ -125,13 +128,13 @@ module _ (e : Edition) (Q : Prog) where
   firsts_fwd H none_more items_stop = less e Q items_stop (omega arith) (omega arith) (omega arith)
   firsts_fwd H (one_more a F) (items_bottom D) =
       let B = after H D in less e Q (items_bottom B.ends) (omega (arith, B.rel.names)) (omega (arith, B.rel.steps)) (omega (arith, B.rel.cells))
-  firsts_fwd H (one_more a F) (items_late D I) =
+  firsts_fwd H (one_more a F) (items_late {d = d} {d' = d'} D I) =
       let B = after H D in
-      let B' = firsts_fwd H F I in
+      let B' = firsts_fwd {d₂ = d'} H F I in
       less e Q (items_late B.ends B'.ends) (omega (arith, B.rel.names, B'.rel.names)) (omega (arith, B.rel.steps, B'.rel.steps)) (omega (arith, B.rel.cells, B'.rel.cells))
-  firsts_fwd H (one_more a F) (items_go D I) =
+  firsts_fwd H (one_more a F) (items_go {d = d} {d' = d'} D I) =
       let B = after H D in
-      let B' = firsts_fwd H F I in
+      let B' = firsts_fwd {d₂ = d'} H F I in
       less e Q (items_go B.ends B'.ends) (omega (arith, B.rel.names, B'.rel.names)) (omega (arith, B.rel.steps, B'.rel.steps)) (omega (arith, B.rel.cells, B'.rel.cells))
 
   root3_fwd : (h a : Form) {fs bs : Forms} → Ending h fs bs → (x : Obj)
@@ -158,8 +161,8 @@ module _ (e : Edition) (Q : Prog) where
       → Ending h fs bs → Ends e Q d₂ (items bs z) r s c → Better e Q Any d₂ (items fs x) r s c
   firsts_bwd H none_more items_stop = any e Q items_stop
   firsts_bwd H (one_more a F) (items_bottom D) = any e Q (items_bottom (two_object H D))
-  firsts_bwd H (one_more a F) (items_late D I) = let B = firsts_bwd H F I in any e Q (items_late (two_object H D) B.ends)
-  firsts_bwd H (one_more a F) (items_go D I) = let B = firsts_bwd H F I in any e Q (items_go (two_object H D) B.ends)
+  firsts_bwd H (one_more a F) (items_late {d = d} {d' = d'} D I) = let B = firsts_bwd {d₂ = d'} H F I in any e Q (items_late (two_object H D) B.ends)
+  firsts_bwd H (one_more a F) (items_go {d = d} {d' = d'} D I) = let B = firsts_bwd {d₂ = d'} H F I in any e Q (items_go (two_object H D) B.ends)
 
   back3 : {h a : Form} {fs bs : Forms} {x : Obj} {d s c : ℕ} {r : Result} → Ending h fs bs → Two (construct (a & bs)) h x d r s c
       → Better e Q Any d (just (construct (chain (a & h & stop) & fs)) x) r s c

@@ -6,7 +6,7 @@ use language::Answer;
 
 // One entry that is expected to be this value, whatever is expected around it: of the output (1), of the form table (2), of
 // the cell table (3); or none (0).
-#[derive(Drop)]
+#[derive(Clone, Copy)]
 pub struct Entry {
     pub table: u32,
     pub place: u32,
@@ -14,7 +14,7 @@ pub struct Entry {
 }
 
 // The lengths of the three texts, the budgets, the output's length, and the answer.
-#[derive(Drop)]
+#[derive(Clone, Copy)]
 pub struct Case {
     pub program: u32,
     pub object: u32,

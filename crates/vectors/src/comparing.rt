@@ -7,7 +7,7 @@ use language::Answer;
 
 // Where a case is not as expected: in a number of its answer (1 to 6, in the answer table's order), in the output (7), in the
 // form table (8), in the cells lent (9) or behind them (10); and the place there. 0 if nowhere.
-#[derive(Drop)]
+#[derive(Clone, Copy)]
 pub struct Difference {
     pub field: u32,
     pub place: usize,

@@ -9,13 +9,13 @@ mod comparing;
 mod printing;
 
 // The file has no case any more; or one was run, with 1 if all agrees and else 0.
-#[derive(Drop)]
+#[derive(Clone, Copy)]
 enum Next {
     End,
     Ran(u64),
 }
 
-#[derive(Drop)]
+#[derive(Clone, Copy)]
 struct Tally {
     all: u64,
     good: u64,

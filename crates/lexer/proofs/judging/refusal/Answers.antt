@@ -1,0 +1,12 @@
+-- `refusal` gives 9 for a word over 12 characters, 6 for all else. Assumes nothing.
+use Rattle.lexer.proofs.Judged.{refusal_mark, refusal_long, refusal_short}
+use Rattle.lexer.proofs.judging.refusal.Goals as goal
+
+pub returns-then-not-is_letter : goal.returns-then-not-is_letter
+returns-then-not-is_letter c = search refusal_mark
+
+pub returns-then-size_at-gt-WORD_LIMIT : goal.returns-then-size_at-gt-WORD_LIMIT
+returns-then-size_at-gt-WORD_LIMIT c = search refusal_long
+
+pub returns : goal.returns
+returns c = search refusal_short
