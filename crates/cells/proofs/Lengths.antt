@@ -8,7 +8,7 @@ use lib.Dec.{eqb}
 use borrow.Author.Tests.{eqb-true, eqb-false}
 use Rattle.language.specs.Objects.{seq, Objs, nil, ◌::◌, length_of}
 use Rattle.language.specs.declared.Val.{Val}
-use Rattle.cells.specs.Cells.{Rep, rep_nil, rep_more, next_at}
+use Rattle.cells.specs.Cells.{Rep, rep_nil, rep_more, next_at, sequence_val}
 
 -- ---- l different numbers below n are at most n
 record Different (f : ℕ → ℕ) (l n : ℕ) : Type 0 where
@@ -84,7 +84,7 @@ unfolding link
 chain_of nil a e (rep_nil t w) = record { inside = λ k z. absurd (omega arith); ends = omega arith }
 chain_of {C} {n} (x :: xs) a e (rep_more {p = p} t w l ra rb) =
     let q : a ≡ suc p = omega arith in
-    rw q (chain_more C n p (length_of xs) l (chain_of xs (next_at C p) refl rb))
+    rw q (chain_more C n p (length_of xs) l (chain_of {v = sequence_val (next_at C p) (length_of xs)} xs (next_at C p) refl rb))
 
 chain_apart : (C : List ℕ) (n a l : ℕ) → Chain C n a l → Different (λ k. link C a k - 1) l n
 chain_apart C n a l c = record { below = λ k h. let i = c.inside k h in omega arith; apart = apart }
