@@ -15,7 +15,7 @@ pub enum Compared {
 
 // Looks at the objects of a and b. Sequences are looked at place by place, wherever they lie: cells that both share are
 // looked at, and counted, as any others.
-#[cycle(places_same)]
+#[cycle(comparison)]
 pub fn same(c: &[u32], a: Val, b: Val, m: Meter) -> Compared
     ensures { Looks c.now a b m result }
 {
@@ -36,7 +36,7 @@ pub fn same(c: &[u32], a: Val, b: Val, m: Meter) -> Compared
 }
 
 // Looks at the places of two sequences, until a difference or until either ends.
-#[cycle(places_same)]
+#[cycle(comparison)]
 fn places(c: &[u32], a: Val, b: Val, m: Meter) -> Compared
     ensures { LooksAlong c.now a b m result }
 {

@@ -10,7 +10,7 @@ use primitives::{Ended, truth_of};
 
 // One application of the form at i to v. A value lent as two numbers and a meter lent as three take less of the stack, and so
 // does an answer that is taken apart at once.
-#[cycle(apply_ask_between_bu_chain_condition_construct_each_fold_insert_name_repeat_slot_step)]
+#[cycle(application)]
 pub fn apply(
     f: &[u32; FORM_TABLE_SIZE],
     c: &mut [u32],
@@ -29,7 +29,7 @@ pub fn apply(
 }
 
 // One application of the form at i, by its kind.
-#[cycle(apply_ask_between_bu_chain_condition_construct_each_fold_insert_name_repeat_slot_step)]
+#[cycle(application)]
 pub fn step(
     f: &[u32; FORM_TABLE_SIZE],
     c: &mut [u32],
@@ -74,7 +74,7 @@ pub fn step(
 }
 
 // The parts of a chain whose last part is the record `last`, the last first.
-#[cycle(apply_ask_between_bu_chain_condition_construct_each_fold_insert_name_repeat_slot_step)]
+#[cycle(application)]
 pub fn chain(
     f: &[u32; FORM_TABLE_SIZE],
     c: &mut [u32],
@@ -103,7 +103,7 @@ pub fn chain(
 }
 
 // One application of the form at i, whose value then waits at top.
-#[cycle(apply_ask_between_bu_chain_condition_construct_each_fold_insert_name_repeat_slot_step)]
+#[cycle(application)]
 pub fn slot(
     f: &[u32; FORM_TABLE_SIZE],
     c: &mut [u32],
@@ -125,7 +125,7 @@ pub fn slot(
 }
 
 // The many parts of a construction from the one at h on, the first first; then a cell for each.
-#[cycle(apply_ask_between_bu_chain_condition_construct_each_fold_insert_name_repeat_slot_step)]
+#[cycle(application)]
 pub fn construct(
     f: &[u32; FORM_TABLE_SIZE],
     c: &mut [u32],
@@ -154,7 +154,7 @@ pub fn construct(
 }
 
 // The form at g on each place of v, from left to right; then a cell for each.
-#[cycle(apply_ask_between_bu_chain_condition_construct_each_fold_insert_name_repeat_slot_step)]
+#[cycle(application)]
 pub fn each(
     f: &[u32; FORM_TABLE_SIZE],
     c: &mut [u32],
@@ -187,7 +187,7 @@ pub fn each(
 }
 
 // The form at g on the pair of the value that waits at top and v.
-#[cycle(apply_ask_between_bu_chain_condition_construct_each_fold_insert_name_repeat_slot_step)]
+#[cycle(application)]
 pub fn fold(
     f: &[u32; FORM_TABLE_SIZE],
     c: &mut [u32],
@@ -211,7 +211,7 @@ pub fn fold(
 }
 
 // The form at g between the `many` values that wait from top on and v, from the right.
-#[cycle(apply_ask_between_bu_chain_condition_construct_each_fold_insert_name_repeat_slot_step)]
+#[cycle(application)]
 pub fn between(
     f: &[u32; FORM_TABLE_SIZE],
     c: &mut [u32],
@@ -242,7 +242,7 @@ pub fn between(
 }
 
 // The form at g between the places of v, from the right. All but the last wait.
-#[cycle(apply_ask_between_bu_chain_condition_construct_each_fold_insert_name_repeat_slot_step)]
+#[cycle(application)]
 pub fn insert(
     f: &[u32; FORM_TABLE_SIZE],
     c: &mut [u32],
@@ -266,7 +266,7 @@ pub fn insert(
 }
 
 // The question at h on v, and what its value says.
-#[cycle(apply_ask_between_bu_chain_condition_construct_each_fold_insert_name_repeat_slot_step)]
+#[cycle(application)]
 pub fn ask(
     f: &[u32; FORM_TABLE_SIZE],
     c: &mut [u32],
@@ -294,7 +294,7 @@ pub fn ask(
 }
 
 // A while: the form behind the question at h again, as long as the question says T.
-#[cycle(apply_ask_between_bu_chain_condition_construct_each_fold_insert_name_repeat_slot_step)]
+#[cycle(application)]
 pub fn repeat(
     f: &[u32; FORM_TABLE_SIZE],
     c: &mut [u32],
@@ -329,7 +329,7 @@ pub fn repeat(
 }
 
 // The form at g on the pair of the constant a and v.
-#[cycle(apply_ask_between_bu_chain_condition_construct_each_fold_insert_name_repeat_slot_step)]
+#[cycle(application)]
 pub fn bu(
     f: &[u32; FORM_TABLE_SIZE],
     c: &mut [u32],
@@ -353,7 +353,7 @@ pub fn bu(
 }
 
 // A condition: the question at h, then the first form behind it on T, the second on F.
-#[cycle(apply_ask_between_bu_chain_condition_construct_each_fold_insert_name_repeat_slot_step)]
+#[cycle(application)]
 pub fn condition(
     f: &[u32; FORM_TABLE_SIZE],
     c: &mut [u32],
@@ -372,7 +372,7 @@ pub fn condition(
 }
 
 // The body of a name, whose record and one is d, with one more name open; 0 if it is undefined.
-#[cycle(apply_ask_between_bu_chain_condition_construct_each_fold_insert_name_repeat_slot_step)]
+#[cycle(application)]
 pub fn name(
     f: &[u32; FORM_TABLE_SIZE],
     c: &mut [u32],

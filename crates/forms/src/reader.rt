@@ -9,7 +9,7 @@ use super::{CommaRead, DotRead, FormRead, FormsRead, MarkRead, TestRead, Upto, m
 use objects::ObjectRead;
 
 // One part, or several joined by dots. `room` more marks may open.
-#[cycle(read_branches_read_bu_read_chain_read_closed_read_condition_read_construct_read_form_read_forms_read_part_read_parts_read_prefix_read_round_read_while)]
+#[cycle(form_reading)]
 pub fn read_form(
     s: &[u8],
     at: usize,
@@ -36,7 +36,7 @@ pub fn read_form(
 }
 
 // Behind the first dot: the first part's records, from n up to m, move up for the chain's record.
-#[cycle(read_branches_read_bu_read_chain_read_closed_read_condition_read_construct_read_form_read_forms_read_part_read_parts_read_prefix_read_round_read_while)]
+#[cycle(form_reading)]
 fn read_chain(
     s: &[u8],
     at: usize,
@@ -61,7 +61,7 @@ fn read_chain(
 }
 
 // Parts joined by dots.
-#[cycle(read_branches_read_bu_read_chain_read_closed_read_condition_read_construct_read_form_read_forms_read_part_read_parts_read_prefix_read_round_read_while)]
+#[cycle(form_reading)]
 fn read_parts(
     s: &[u8],
     from: usize,
@@ -95,7 +95,7 @@ fn read_parts(
 }
 
 // A word, a name, or what begins with a mark that opens.
-#[cycle(read_branches_read_bu_read_chain_read_closed_read_condition_read_construct_read_form_read_forms_read_part_read_parts_read_prefix_read_round_read_while)]
+#[cycle(form_reading)]
 fn read_part(
     s: &[u8],
     at: usize,
@@ -127,7 +127,7 @@ fn read_part(
 }
 
 // Behind a `[`: forms, and the `]`.
-#[cycle(read_branches_read_bu_read_chain_read_closed_read_condition_read_construct_read_form_read_forms_read_part_read_parts_read_prefix_read_round_read_while)]
+#[cycle(form_reading)]
 fn read_construct(
     s: &[u8],
     at: usize,
@@ -150,7 +150,7 @@ fn read_construct(
 }
 
 // Forms with commas between, and the `]`.
-#[cycle(read_branches_read_bu_read_chain_read_closed_read_condition_read_construct_read_form_read_forms_read_part_read_parts_read_prefix_read_round_read_while)]
+#[cycle(form_reading)]
 fn read_forms(
     s: &[u8],
     from: usize,
@@ -192,7 +192,7 @@ fn read_forms(
 }
 
 // Behind a `/` (kind 7) or an `@` (kind 8): a part.
-#[cycle(read_branches_read_bu_read_chain_read_closed_read_condition_read_construct_read_form_read_forms_read_part_read_parts_read_prefix_read_round_read_while)]
+#[cycle(form_reading)]
 fn read_prefix(
     kind: u32,
     s: &[u8],
@@ -216,7 +216,7 @@ fn read_prefix(
 }
 
 // Behind a `{`: a part, a comma, an object and the `}`.
-#[cycle(read_branches_read_bu_read_chain_read_closed_read_condition_read_construct_read_form_read_forms_read_part_read_parts_read_prefix_read_round_read_while)]
+#[cycle(form_reading)]
 fn read_bu(
     s: &[u8],
     at: usize,
@@ -243,7 +243,7 @@ fn read_bu(
 }
 
 // Behind a `(`: a form and the `)`, or a condition or a loop that begins with it.
-#[cycle(read_branches_read_bu_read_chain_read_closed_read_condition_read_construct_read_form_read_forms_read_part_read_parts_read_prefix_read_round_read_while)]
+#[cycle(form_reading)]
 fn read_round(
     s: &[u8],
     at: usize,
@@ -276,7 +276,7 @@ fn read_round(
 }
 
 // A form and the `)` behind it.
-#[cycle(read_branches_read_bu_read_chain_read_closed_read_condition_read_construct_read_form_read_forms_read_part_read_parts_read_prefix_read_round_read_while)]
+#[cycle(form_reading)]
 fn read_closed(
     s: &[u8],
     at: usize,
@@ -307,7 +307,7 @@ fn read_closed(
 }
 
 // Behind `(p?`: the loop's form and the `)`. The records of p, from n up to m, move up for the loop's record.
-#[cycle(read_branches_read_bu_read_chain_read_closed_read_condition_read_construct_read_form_read_forms_read_part_read_parts_read_prefix_read_round_read_while)]
+#[cycle(form_reading)]
 fn read_while(
     s: &[u8],
     at: usize,
@@ -332,7 +332,7 @@ fn read_while(
 }
 
 // Behind `(p->`: two forms. The records of p, from n up to m, move up for the condition's record.
-#[cycle(read_branches_read_bu_read_chain_read_closed_read_condition_read_construct_read_form_read_forms_read_part_read_parts_read_prefix_read_round_read_while)]
+#[cycle(form_reading)]
 fn read_condition(
     s: &[u8],
     at: usize,
@@ -357,7 +357,7 @@ fn read_condition(
 }
 
 // Two forms with a `;` between, and the `)`.
-#[cycle(read_branches_read_bu_read_chain_read_closed_read_condition_read_construct_read_form_read_forms_read_part_read_parts_read_prefix_read_round_read_while)]
+#[cycle(form_reading)]
 fn read_branches(
     s: &[u8],
     at: usize,

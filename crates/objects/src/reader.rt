@@ -21,7 +21,7 @@ fn read_atom(s: &[u8], p: usize, used: u32) -> ObjectRead
 }
 
 // The object at or behind `at`, where `room` more marks may open, in cells from `used` on.
-#[cycle(read_object_read_place_read_places)]
+#[cycle(object_reading)]
 pub fn read_object(s: &[u8], at: usize, room: u32, c: &mut [u32], used: u32) -> ObjectRead
     requires { used + (length s.now - at) ≤ 4294967294 }
     ensures { ObjectReading s.now at room c.old used result c.new }
@@ -43,7 +43,7 @@ pub fn read_object(s: &[u8], at: usize, room: u32, c: &mut [u32], used: u32) -> 
 }
 
 // The places of a sequence from `from` on, up to the `>`: at least one.
-#[cycle(read_object_read_place_read_places)]
+#[cycle(object_reading)]
 fn read_places(s: &[u8], from: usize, room: u32, c: &mut [u32], used: u32) -> ObjectRead
     requires { (from ≤ length s.now) × (used + 1 + (length s.now - from) ≤ 4294967294) }
     ensures { PlacesReading s.now from room c.old used result c.new }
@@ -69,7 +69,7 @@ fn read_places(s: &[u8], from: usize, room: u32, c: &mut [u32], used: u32) -> Ob
 }
 
 // One place of a sequence, its cell at `cell`, with the comma or the `>` behind it.
-#[cycle(read_object_read_place_read_places)]
+#[cycle(object_reading)]
 fn read_place(s: &[u8], at: usize, room: u32, c: &mut [u32], cell: u32) -> PlaceRead
     requires { (at ≤ length s.now) × (cell + 1 + (length s.now - at) ≤ 4294967294) }
     ensures { PlaceReading s.now at room c.old cell result c.new }

@@ -102,7 +102,7 @@ fn walk_atom(v: Val, out: &mut [u8], at: usize, cap: usize) -> Written
 }
 
 // Walks over what v stands for, from the place `at` on, where `opened` marks are open and the text may go up to `cap`.
-#[cycle(walk_object_walk_place_walk_places)]
+#[cycle(object_writing)]
 pub fn walk_object(c: &[u32], v: Val, out: &mut [u8], at: usize, cap: usize, opened: u32) -> Written
     requires { at ≤ cap }
     ensures { ObjectWalked c.now v at cap opened result out.old out.new }
@@ -125,7 +125,7 @@ pub fn walk_object(c: &[u32], v: Val, out: &mut [u8], at: usize, cap: usize, ope
 }
 
 // Walks over the places of a sequence that has some, with the comma or the `>` behind each.
-#[cycle(walk_object_walk_place_walk_places)]
+#[cycle(object_writing)]
 fn walk_places(c: &[u32], v: Val, out: &mut [u8], from: usize, cap: usize, opened: u32) -> Written
     requires { from ≤ cap }
     ensures { PlacesWalked c.now v from cap opened result out.old out.new }
@@ -147,7 +147,7 @@ fn walk_places(c: &[u32], v: Val, out: &mut [u8], from: usize, cap: usize, opene
 }
 
 // Walks over the object in a sequence's first place, and the mark b behind it.
-#[cycle(walk_object_walk_place_walk_places)]
+#[cycle(object_writing)]
 fn walk_place(
     c: &[u32],
     v: Val,

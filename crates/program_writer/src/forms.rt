@@ -157,7 +157,7 @@ fn walk_ending(c: &[u32], row: Val, out: &mut [u8], at: usize) -> usize
 }
 
 // Walks over the form at record i.
-#[cycle(walk_form_walk_part_walk_parts)]
+#[cycle(form_writing)]
 pub fn walk_form(t: &[u32], c: &[u32], i: u32, out: &mut [u8], at: usize) -> Way
     ensures { FormWalked t.now c.now i at result out.old out.new }
 {
@@ -176,7 +176,7 @@ pub fn walk_form(t: &[u32], c: &[u32], i: u32, out: &mut [u8], at: usize) -> Way
 }
 
 // Walks over as many parts as `arity` says of a form of this kind, with what stands behind each.
-#[cycle(walk_form_walk_part_walk_parts)]
+#[cycle(form_writing)]
 fn walk_parts(
     t: &[u32],
     c: &[u32],
@@ -201,7 +201,7 @@ fn walk_parts(
 }
 
 // Walks over the part at record i of a form of this kind, in brackets where it must have them.
-#[cycle(walk_form_walk_part_walk_parts)]
+#[cycle(form_writing)]
 fn walk_part(t: &[u32], c: &[u32], kind: u32, i: u32, out: &mut [u8], at: usize) -> Way
     ensures { PartWalked t.now c.now kind i at result out.old out.new }
 {

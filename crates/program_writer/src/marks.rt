@@ -26,7 +26,7 @@ fn one_more(marks: u32) -> u32
 }
 
 // The marks of what v stands for, up to `limit`.
-#[cycle(object_marks_places_marks)]
+#[cycle(marks_of_objects)]
 fn object_marks(c: &[u32], v: Val, limit: u32) -> u32
     ensures { ObjectDepth c.now v limit result }
 {
@@ -40,7 +40,7 @@ fn object_marks(c: &[u32], v: Val, limit: u32) -> u32
 }
 
 // The most marks of the places of a sequence, up to `limit`.
-#[cycle(object_marks_places_marks)]
+#[cycle(marks_of_objects)]
 fn places_marks(c: &[u32], v: Val, limit: u32) -> u32
     ensures { PlacesDepth c.now v limit result }
 {
@@ -76,7 +76,7 @@ fn own_marks(c: &[u32], row: Val) -> u32
 }
 
 // The marks of the form at record i.
-#[cycle(form_marks_part_marks_parts_marks)]
+#[cycle(marks_of_forms)]
 pub fn form_marks(t: &[u32], c: &[u32], i: u32) -> Depth
     ensures { FormDepth t.now c.now i result }
 {
@@ -100,7 +100,7 @@ pub fn form_marks(t: &[u32], c: &[u32], i: u32) -> Depth
 }
 
 // The most marks of as many parts as `arity` says of a form of this kind.
-#[cycle(form_marks_part_marks_parts_marks)]
+#[cycle(marks_of_forms)]
 fn parts_marks(t: &[u32], c: &[u32], kind: u32, arity: u32, from: u32) -> Depth
     ensures { PartsDepth t.now c.now kind arity from result }
 {
@@ -120,7 +120,7 @@ fn parts_marks(t: &[u32], c: &[u32], kind: u32, arity: u32, from: u32) -> Depth
 }
 
 // The marks of the part at record i of a form of this kind, with its brackets where it has them.
-#[cycle(form_marks_part_marks_parts_marks)]
+#[cycle(marks_of_forms)]
 fn part_marks(t: &[u32], c: &[u32], kind: u32, i: u32) -> Depth
     ensures { PartDepth t.now c.now kind i result }
 {

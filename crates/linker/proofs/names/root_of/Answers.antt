@@ -1,0 +1,15 @@
+use Prim.Native.Nat.{◌-◌}
+use Rattle.linker.proofs.Naming.{find_start, find_next, find_here, find_end}
+use Rattle.linker.proofs.names.root_of.Goals as goal
+
+pub loop-d-init : goal.loop-d-init
+loop-d-init c = search find_start
+
+pub returns-then-has_name : goal.returns-then-has_name
+returns-then-has_name c = search find_here
+
+pub loop-d-preserved : goal.loop-d-preserved
+loop-d-preserved c = search find_next
+
+pub returns : goal.returns
+returns c = search find_end

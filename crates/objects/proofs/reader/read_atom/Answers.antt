@@ -1,0 +1,12 @@
+-- A word or number is what it is judged to be.
+use Rattle.objects.proofs.ObjectReads.{atom_empty, atom-not, atom_is}
+use Rattle.objects.proofs.reader.read_atom.Goals as goal
+
+pub returns-then-n-eq0 : goal.returns-then-n-eq0
+returns-then-n-eq0 c = search atom_empty
+
+pub returns-in-Is : goal.returns-in-Is
+returns-in-Is c = search atom_is
+
+pub returns-in-Not : goal.returns-in-Not
+returns-in-Not c = search atom-not
