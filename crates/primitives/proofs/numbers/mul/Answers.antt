@@ -1,5 +1,5 @@
 -- `mul` answers as its word means.
-use Rattle.std.proofs.lemmas.Bool.{not-false}
+use Rattle.std.proofs.lemmas.Bool.{not_from_true}
 use Rattle.primitives.proofs.Numbered.{first_no, second_no, on_mul, mul_end}
 use Rattle.primitives.proofs.Shaped.{short_of, small_of}
 use Rattle.primitives.proofs.numbers.mul.Goals as goal
@@ -11,7 +11,7 @@ pub returns-then-not-is_integer-2 : goal.returns-then-not-is_integer-2
 returns-then-not-is_integer-2 c = search (second_no, on_mul)
 
 pub multiply-requires : goal.multiply-requires
-multiply-requires c = (small_of (short_of c.is_integer.ensures (not-false _ c.if-not-is_integer.false)), small_of (short_of c.is_integer-2.ensures (not-false _ c.if-not-is_integer-2.false)))
+multiply-requires c = (small_of (short_of c.is_integer.ensures (not_from_true _ c.if-not-is_integer.false)), small_of (short_of c.is_integer-2.ensures (not_from_true _ c.if-not-is_integer-2.false)))
 
 pub returns : goal.returns
 returns c = search (mul_end, short_of)

@@ -1,0 +1,6 @@
+-- `constant` meets its contract.
+use Rattle.evaluator.proofs.Numbers.{constant_is}
+use Rattle.evaluator.proofs.records.constant.Goals as goal
+
+pub returns : goal.returns
+returns c = search constant_is

@@ -1,0 +1,6 @@
+-- `walk_definition` walks over a name, `=`, a form and `;`. Assumes nothing.
+use Rattle.program_writer.proofs.Programs.{definition_done}
+use Rattle.program_writer.proofs.definitions.walk_definition.Goals as goal
+
+pub returns : goal.returns
+returns c = search definition_done

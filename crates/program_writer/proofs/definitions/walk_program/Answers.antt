@@ -1,0 +1,12 @@
+use Prim.Native.Nat.{◌-◌}
+use Rattle.program_writer.proofs.Programs.{definitions_start, definitions_turn, definitions_end}
+use Rattle.program_writer.proofs.definitions.walk_program.Goals as goal
+
+pub loop-k-init : goal.loop-k-init
+loop-k-init c = search definitions_start
+
+pub loop-k-preserved : goal.loop-k-preserved
+loop-k-preserved c = search definitions_turn
+
+pub returns : goal.returns
+returns c = search definitions_end
