@@ -7,14 +7,7 @@ use Rattle.evaluator.proofs.Pairs.{bu_full, bu_done, fold_full, fold_done}
 use Rattle.evaluator.proofs.Inserts.{between_start, between_turn, between_halt, between_end, insert-atom, insert-none, insert-done}
 use Rattle.evaluator.proofs.Applies.{applied, apply-spent, apply_leaf, on_word, on_name, on_chain, on_construct, on_insert, on_all, on_condition, on_while, on_bu}
 use borrow.Author.Rules.{rules}
-use Prim.Native.Nat.{ℕ, ◌<◌}
 use Rattle.evaluator.proofs.cycle.+application.Goals as goal
-
-abbrev each_below : ℕ → In 3 each-kinds.ps
-each_below t = and 3 each-kinds.ps (falls 3 each-kinds.ps ◌<◌ μ-each t) each.Pre
-
-abbrev name_below : ℕ → In 3 name-kinds.ps
-name_below t = and 3 name-kinds.ps (falls 3 name-kinds.ps ◌<◌ μ-name t) name.Pre
 
 pub apply-returns-in-Done : goal.apply-returns-in-Done
 apply-returns-in-Done t c = search applied_as
@@ -131,7 +124,7 @@ pub name-apply-requires : goal.name-apply-requires
 name-apply-requires t c = search (below_open, rules)
 
 pub name-close_name-back-requires : goal.name-close_name-back-requires
-name-close_name-back-requires t c = search (may_close, c.well-formed.1.1.1.1.1.1)
+name-close_name-back-requires t c = search (may_close, rules)
 
 pub name-returns-in-Spent : goal.name-returns-in-Spent
 name-returns-in-Spent t c = search name_full
