@@ -1,0 +1,12 @@
+-- 1 to 5 touch nothing; after all other answers both tables are zeroed.
+use Rattle.nattglod.proofs.Exits.{run_refused, run_sized, run_texts}
+use Rattle.nattglod.proofs.calls.run.Goals as goal
+
+pub returns-then-refusal-ne0 : goal.returns-then-refusal-ne0
+returns-then-refusal-ne0 c = search run_refused
+
+pub answer_texts-answer-requires : goal.answer_texts-answer-requires
+answer_texts-answer-requires c = search run_sized
+
+pub returns : goal.returns
+returns c = search run_texts
