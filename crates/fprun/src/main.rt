@@ -3,6 +3,8 @@
 
 ghost use Rattle.std.specs.Prelude.{◌≡◌, length};
 
+use std::io;
+
 // One byte more than an input may have, so that a longer one shows.
 fn input_buffer() -> [u8; 25001]
     ensures { 25001 ≡ length result }
@@ -10,10 +12,10 @@ fn input_buffer() -> [u8; 25001]
     [0; 25001]
 }
 
-fn main() {
+fn main(rt: HostRuntime) -> io::Result<()> {
     let mut input = input_buffer();
-    let n = io::read_full(libc::STDIN_FILENO, &mut input);
+    let n = streams::read_full(&mut rt.stdin(), &mut input)?;
     let mut out = replies::reply();
     let r = replies::answer_input(&input[..n], &mut out);
-    io::write_all(libc::STDOUT_FILENO, &out[..r]);
+    rt.write_all(&out[..r])
 }

@@ -2,10 +2,10 @@
 // and 0. It reads up to 16,384 bytes.
 #![tactic(auto)]
 
-ghost use Rattle.std.specs.Prelude.{◌≡◌, length, ltb};
+ghost use Rattle.std.specs.Prelude.{◌≡◌, length, ltb, IfOk};
 
 use language::Token;
-use libc::{STDIN_FILENO, STDOUT_FILENO};
+use std::io;
 
 // 16,384 zeros. The `ensures` gives only the length.
 fn room() -> [u8; 16384]
@@ -15,26 +15,24 @@ fn room() -> [u8; 16384]
 }
 
 // Prints one line, and answers whether it is a word's.
-fn show(t: Token) -> bool
-    ensures { result ≡ ltb 0 t.length }
+fn show(rt: &impl Print, t: Token) -> io::Result<bool>
+    ensures { IfOk result (λ more. more ≡ ltb 0 t.length) }
 {
-    io::print_decimal(STDOUT_FILENO, t.place as u64);
-    io::write_all(STDOUT_FILENO, b" ");
-    io::print_decimal(STDOUT_FILENO, t.length as u64);
-    io::write_all(STDOUT_FILENO, b"\n");
-    0 < t.length
+    println!(rt; "{} {}", t.place, t.length)?;
+    Ok(0 < t.length)
 }
 
 // Steps through the text from its start to its end.
-fn show_all(text: &[u8]) {
+fn show_all(rt: &impl Print, text: &[u8]) -> io::Result<()> {
     let mut r = stepper::start(text);
-    while show(stepper::word(r)) {
+    while show(rt, stepper::word(r))? {
         r = stepper::behind(r);
     }
+    Ok(())
 }
 
-fn main() {
+fn main(rt: HostRuntime) -> io::Result<()> {
     let mut buf = room();
-    let n = io::read_full(STDIN_FILENO, &mut buf);
-    show_all(&buf[..n]);
+    let n = streams::read_full(&mut rt.stdin(), &mut buf)?;
+    show_all(&rt, &buf[..n])
 }
