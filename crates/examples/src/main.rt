@@ -2,11 +2,13 @@
 // budgets, the program and the object. Then the same of data/inputs.cases, where inputs of every shape stand.
 #![tactic(auto)]
 
-ghost use Rattle.std.specs.Prelude.{◌≤◌, length};
+ghost use Rattle.std.specs.Prelude.{◌≤◌, length, IfOk};
 ghost use Rattle.examples.specs.Ahead.{Further};
 
 mod inputs;
 mod printing;
+
+use std::{fs, io};
 
 // The place behind the line that starts at `from`.
 fn behind_line(s: &[u8], from: usize) -> usize
@@ -24,49 +26,40 @@ fn behind_line(s: &[u8], from: usize) -> usize
 }
 
 // Prints the example that starts at `from`, and gives the place behind it.
-fn print_example(s: &[u8], from: usize) -> usize
+fn print_example(rt: &HostRuntime, s: &[u8], from: usize) -> io::Result<usize>
     requires { from ≤ length s.now }
-    ensures { Further from (length s.now) result }
+    ensures { IfOk result (λ end. Further from (length s.now) end) }
 {
     let budgets = behind_line(s, from);
     let program = behind_line(s, budgets);
     let object = behind_line(s, program);
     let end = behind_line(s, object);
-    printing::print(&s[from..budgets]);
-    printing::print_reply(&s[budgets..end]);
-    end
+    printing::print(rt, &s[from..budgets])?;
+    printing::print_reply(rt, &s[budgets..end])?;
+    Ok(end)
 }
 
-fn print_all(s: &[u8]) {
+fn print_all(rt: &HostRuntime, s: &[u8]) -> io::Result<()> {
     let mut at = 0;
     while at < s.len() {
-        at = print_example(s, at);
+        at = print_example(rt, s, at)?;
     }
+    Ok(())
 }
 
-fn print_examples(path: &[u8]) {
-    let fd = os::open_read(path);
-    if fd < 0 {
-        os::fail(path);
-        return;
-    }
-    let mut text = io::large_buffer();
-    let n = io::read_full(fd, &mut text);
-    libc::close(fd);
-    print_all(&text[..n]);
+fn print_examples(rt: &HostRuntime, path: &str) -> io::Result<()> {
+    let mut file = fs::open(rt, path)?;
+    let mut text = streams::large_buffer();
+    let n = streams::read_full(&mut file, &mut text)?;
+    print_all(rt, &text[..n])
 }
 
-fn print_inputs(path: &[u8]) {
-    let fd = os::open_read(path);
-    if fd < 0 {
-        os::fail(path);
-        return;
-    }
-    inputs::print_all(fd);
-    libc::close(fd);
+fn print_inputs(rt: &HostRuntime, path: &str) -> io::Result<()> {
+    let mut file = fs::open(rt, path)?;
+    inputs::print_all(rt, &mut file)
 }
 
-fn main() {
-    print_examples(b"examples.txt");
-    print_inputs(b"inputs.cases");
+fn main(rt: HostRuntime) -> io::Result<()> {
+    print_examples(&rt, "examples.txt")?;
+    print_inputs(&rt, "inputs.cases")
 }

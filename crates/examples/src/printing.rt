@@ -1,11 +1,12 @@
 // What is printed of an input.
+use std::io;
 
-pub fn print(text: &[u8]) {
-    io::write_all(libc::STDOUT_FILENO, text);
+pub fn print(rt: &HostRuntime, text: &[u8]) -> io::Result<()> {
+    rt.write_all(text)
 }
 
-pub fn print_reply(input: &[u8]) {
+pub fn print_reply(rt: &HostRuntime, input: &[u8]) -> io::Result<()> {
     let mut out = replies::reply();
     let r = replies::answer_input(input, &mut out);
-    print(&out[..r]);
+    print(rt, &out[..r])
 }

@@ -1,7 +1,7 @@
 // What the programs read: a stream's bytes in a lent buffer.
 #![tactic(auto)]
 
-ghost use Rattle.std.specs.Prelude.{◌≤◌, length, IfOk};
+ghost use Rattle.std.specs.Prelude.{◌≡◌, ◌≤◌, length, IfOk};
 
 use std::io::{self, Read};
 
@@ -18,4 +18,11 @@ pub fn read_full<R: Read>(input: &mut R, buf: &mut [u8]) -> io::Result<usize>
         done += n;
     }
     Ok(done)
+}
+
+// 65,536 zeros, which hold every text of the programs' data. The `ensures` gives only the length.
+pub fn large_buffer() -> [u8; 65536]
+    ensures { 65536 ≡ length result }
+{
+    [0; 65536]
 }

@@ -1,0 +1,9 @@
+-- Each turn comes nearer to the end of the text.
+use Rattle.std.proofs.Common.{◌-◌, ◌≤◌, length}
+use Rattle.examples.proofs.print_all.Given as goal
+
+abbrev pub invariant-loop-at : goal.invariant-loop-at
+invariant-loop-at l = l.at ≤ length l.s
+
+abbrev pub decreases-loop-at : goal.decreases-loop-at
+decreases-loop-at l = length l.s - l.at
