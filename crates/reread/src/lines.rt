@@ -3,45 +3,39 @@ ghost use Rattle.std.specs.Prelude.{◌≤◌, length};
 ghost use Rattle.reread.specs.Rereading.{Inside};
 
 use super::Reread;
-use libc::STDOUT_FILENO;
+use std::io;
 
 // Prints the case's kind and number, and a colon.
-fn print_case(kind: u64, count: u64) {
+fn print_case(rt: &HostRuntime, kind: u64, count: u64) -> io::Result<()> {
     if kind == 1 {
-        io::write_all(STDOUT_FILENO, b"program ");
+        print!(rt; "program ")?;
     } else {
-        io::write_all(STDOUT_FILENO, b"object ");
+        print!(rt; "object ")?;
     }
-    io::print_decimal(STDOUT_FILENO, count);
-    io::write_all(STDOUT_FILENO, b": ");
+    print!(rt; "{count}: ")
 }
 
 // Prints a refusal's number and place.
-fn print_refusal(number: u32, place: usize) {
-    io::write_all(STDOUT_FILENO, b"refused ");
-    io::print_decimal(STDOUT_FILENO, number as u64);
-    io::write_all(STDOUT_FILENO, b" at ");
-    io::print_decimal(STDOUT_FILENO, place as u64);
+fn print_refusal(rt: &HostRuntime, number: u32, place: usize) -> io::Result<()> {
+    print!(rt; "refused {number} at {place}")
 }
 
 // Prints the first n bytes of what was written.
-fn print_text(out: &[u8], n: usize)
+fn print_text(rt: &HostRuntime, out: &[u8], n: usize) -> io::Result<()>
     requires { n ≤ length out.now }
 {
-    io::write_all(STDOUT_FILENO, &out[..n]);
+    rt.write_all(&out[..n])
 }
 
 // Prints what became of a case's text.
-pub fn print_line(kind: u64, count: u64, r: Reread, out: &[u8])
+pub fn print_line(rt: &HostRuntime, kind: u64, count: u64, r: Reread, out: &[u8]) -> io::Result<()>
     requires { Inside r out.now }
 {
-    print_case(kind, count);
+    print_case(rt, kind, count)?;
     match r {
-        Reread::Back(n) => print_text(out, n),
-        Reread::Refused(number, place) => print_refusal(number, place),
-        Reread::Unwritten => {
-            io::write_all(STDOUT_FILENO, b"no room");
-        }
+        Reread::Back(n) => print_text(rt, out, n)?,
+        Reread::Refused(number, place) => print_refusal(rt, number, place)?,
+        Reread::Unwritten => print!(rt; "no room")?,
     }
-    io::write_all(STDOUT_FILENO, b"\n");
+    println!(rt; "")
 }

@@ -7,6 +7,8 @@ mod cases;
 mod lines;
 mod rereading;
 
+use std::{fs, io};
+
 // What became of a text: it was written back, so many bytes; it was refused, with the answer's number and place; or what
 // was read has no room in the output, or too many marks.
 #[derive(Clone, Copy)]
@@ -16,17 +18,12 @@ pub enum Reread {
     Unwritten,
 }
 
-fn reread_file(path: &[u8], short: bool) {
-    let fd = os::open_read(path);
-    if fd < 0 {
-        os::fail(path);
-        return;
-    }
-    cases::reread_all(fd, short);
-    libc::close(fd);
+fn reread_file(rt: &HostRuntime, path: &str, short: bool) -> io::Result<()> {
+    let mut file = fs::open(rt, path)?;
+    cases::reread_all(rt, &mut file, short)
 }
 
-fn main() {
-    reread_file(b"texts.cases", false);
-    reread_file(b"short.cases", true);
+fn main(rt: HostRuntime) -> io::Result<()> {
+    reread_file(&rt, "texts.cases", false)?;
+    reread_file(&rt, "short.cases", true)
 }

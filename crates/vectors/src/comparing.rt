@@ -4,6 +4,8 @@ ghost use Rattle.std.specs.Prelude.{◌≤◌, length};
 use crate::cases::{Case, Entry};
 use crate::{buffers, printing};
 use language::Answer;
+use std::fs::File;
+use std::io;
 
 // Where a case is not as expected: in a number of its answer (1 to 6, in the answer table's order), in the output (7), in the
 // form table (8), in the cells lent (9) or behind them (10); and the place there. 0 if nowhere.
@@ -178,36 +180,45 @@ fn first_difference(
 }
 
 // Runs case k, and gives 1 if all agrees and else 0.
-fn compare(c: Case, e: Entry, program: &[u8], object: &[u8], text: &[u8], k: u64) -> u64 {
+fn compare(
+    rt: &HostRuntime,
+    c: Case,
+    e: Entry,
+    program: &[u8],
+    object: &[u8],
+    text: &[u8],
+    k: u64,
+) -> io::Result<u64> {
     let mut forms = buffers::form_table();
     let mut table = buffers::cell_table();
     let mut output = buffers::output();
     let a = call(c, program, object, &mut forms, &mut table, &mut output);
     let d = first_difference(c, e, text, a, &forms, &table, &output);
     if d.field == 0 {
-        return 1;
+        return Ok(1);
     }
     let wanted = c.answer;
-    printing::print_difference(k, d, wanted, a)
+    printing::print_difference(rt, k, d, wanted, a)
 }
 
 // Reads the next n bytes of the file to the front of the buffer.
-fn read_text(fd: i32, buf: &mut [u8], n: usize)
+fn read_text(file: &mut File, buf: &mut [u8], n: usize) -> io::Result<()>
     requires { n ≤ length buf.old }
 {
-    io::read_full(fd, &mut buf[..n]);
+    streams::read_full(file, &mut buf[..n])?;
+    Ok(())
 }
 
 // Reads the three texts of case k, and runs it.
-pub fn run_case(fd: i32, c: Case, e: Entry, k: u64) -> u64 {
+pub fn run_case(rt: &HostRuntime, file: &mut File, c: Case, e: Entry, k: u64) -> io::Result<u64> {
     let mut program = buffers::text();
     let mut object = buffers::text();
     let mut text = buffers::text();
     let p = least(c.program, 20000);
     let o = least(c.object, 20000);
     let t = least(c.text, 20000);
-    read_text(fd, &mut program, p);
-    read_text(fd, &mut object, o);
-    read_text(fd, &mut text, t);
-    compare(c, e, &program[..p], &object[..o], &text[..t], k)
+    read_text(file, &mut program, p)?;
+    read_text(file, &mut object, o)?;
+    read_text(file, &mut text, t)?;
+    compare(rt, c, e, &program[..p], &object[..o], &text[..t], k)
 }

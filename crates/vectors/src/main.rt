@@ -8,6 +8,9 @@ mod cases;
 mod comparing;
 mod printing;
 
+use std::fs::File;
+use std::{fs, io};
+
 // The file has no case any more; or one was run, with 1 if all agrees and else 0.
 #[derive(Clone, Copy)]
 enum Next {
@@ -22,51 +25,47 @@ struct Tally {
 }
 
 // Reads the entry in front of a wrong case; in front of another there is none.
-fn next_entry(fd: i32, wrong: bool) -> cases::Entry {
+fn next_entry(file: &mut File, wrong: bool) -> io::Result<cases::Entry> {
     if !wrong {
-        return cases::no_entry();
+        return Ok(cases::no_entry());
     }
     let mut head = [0u8; 12];
-    io::read_full(fd, &mut head);
-    cases::read_entry(&head)
+    streams::read_full(file, &mut head)?;
+    Ok(cases::read_entry(&head))
 }
 
-fn run_next(fd: i32, wrong: bool, k: u64) -> Next {
-    let e = next_entry(fd, wrong);
+fn run_next(rt: &HostRuntime, file: &mut File, wrong: bool, k: u64) -> io::Result<Next> {
+    let e = next_entry(file, wrong)?;
     let mut head = [0u8; 52];
-    let n = io::read_full(fd, &mut head);
+    let n = streams::read_full(file, &mut head)?;
     if n < 52 {
-        return Next::End;
+        return Ok(Next::End);
     }
-    Next::Ran(comparing::run_case(fd, cases::read_case(&head), e, k))
+    let good = comparing::run_case(rt, file, cases::read_case(&head), e, k)?;
+    Ok(Next::Ran(good))
 }
 
-fn run_all(fd: i32, wrong: bool) -> Tally {
+fn run_all(rt: &HostRuntime, file: &mut File, wrong: bool) -> io::Result<Tally> {
     let mut all: u64 = 0;
     let mut good: u64 = 0;
     while all < 1000000 {
-        let k = match run_next(fd, wrong, all) {
-            Next::End => return Tally { all, good },
+        let k = match run_next(rt, file, wrong, all)? {
+            Next::End => return Ok(Tally { all, good }),
             Next::Ran(k) => k,
         };
-        good = std::num::wrapping_add_u64(good, k);
+        good = good.wrapping_add(k);
         all += 1;
     }
-    Tally { all, good }
+    Ok(Tally { all, good })
 }
 
-fn run_file(path: &[u8], wrong: bool) {
-    let fd = os::open_read(path);
-    if fd < 0 {
-        os::fail(path);
-        return;
-    }
-    let t = run_all(fd, wrong);
-    libc::close(fd);
-    printing::print_tally(t.all, t.good);
+fn run_file(rt: &HostRuntime, path: &str, wrong: bool) -> io::Result<()> {
+    let mut file = fs::open(rt, path)?;
+    let t = run_all(rt, &mut file, wrong)?;
+    printing::print_tally(rt, t.all, t.good)
 }
 
-fn main() {
-    run_file(b"run.cases", false);
-    run_file(b"wrong.cases", true);
+fn main(rt: HostRuntime) -> io::Result<()> {
+    run_file(&rt, "run.cases", false)?;
+    run_file(&rt, "wrong.cases", true)
 }

@@ -1,59 +1,58 @@
 // What is printed of a case that does not agree, and of all of them at the end.
 use crate::comparing::Difference;
 use language::Answer;
+use std::io;
 
-fn print(text: &[u8]) {
-    io::write_all(libc::STDOUT_FILENO, text);
+fn print(rt: &HostRuntime, text: &[u8]) -> io::Result<()> {
+    rt.write_all(text)
 }
 
-fn print_answer(a: Answer) {
+fn print_answer(rt: &HostRuntime, a: Answer) -> io::Result<()> {
     let mut line = [0u8; 66];
     let n = call_lines::print_numbers(&mut line, a);
-    print(&line[..n]);
+    print(rt, &line[..n])
 }
 
-fn print_field(field: u32) {
+fn print_field(rt: &HostRuntime, field: u32) -> io::Result<()> {
     match field {
-        1 => print(b"number"),
-        2 => print(b"place"),
-        3 => print(b"text"),
-        4 => print(b"steps"),
-        5 => print(b"cells"),
-        6 => print(b"length"),
-        7 => print(b"output"),
-        8 => print(b"form table"),
-        9 => print(b"cell table"),
-        _ => print(b"cells not lent"),
+        1 => print(rt, b"number"),
+        2 => print(rt, b"place"),
+        3 => print(rt, b"text"),
+        4 => print(rt, b"steps"),
+        5 => print(rt, b"cells"),
+        6 => print(rt, b"length"),
+        7 => print(rt, b"output"),
+        8 => print(rt, b"form table"),
+        9 => print(rt, b"cell table"),
+        _ => print(rt, b"cells not lent"),
     }
 }
 
 // Prints the number that is expected and the one that was answered, or the place of the entry that differs.
-fn print_detail(d: Difference, wanted: Answer, a: Answer) {
+fn print_detail(rt: &HostRuntime, d: Difference, wanted: Answer, a: Answer) -> io::Result<()> {
     if d.field <= 6 {
-        print(b"\n  expected ");
-        print_answer(wanted);
-        print(b"  answered ");
-        print_answer(a);
-        return;
+        print(rt, b"\n  expected ")?;
+        print_answer(rt, wanted)?;
+        print(rt, b"  answered ")?;
+        return print_answer(rt, a);
     }
-    print(b" at ");
-    io::print_decimal(libc::STDOUT_FILENO, d.place as u64);
-    print(b"\n");
+    println!(rt; " at {}", d.place)
 }
 
 // Prints where case k is not as expected, and gives 0.
-pub fn print_difference(k: u64, d: Difference, wanted: Answer, a: Answer) -> u64 {
-    print(b"case ");
-    io::print_decimal(libc::STDOUT_FILENO, k);
-    print(b" differs in ");
-    print_field(d.field);
-    print_detail(d, wanted, a);
-    0
+pub fn print_difference(
+    rt: &HostRuntime,
+    k: u64,
+    d: Difference,
+    wanted: Answer,
+    a: Answer,
+) -> io::Result<u64> {
+    print!(rt; "case {k} differs in ")?;
+    print_field(rt, d.field)?;
+    print_detail(rt, d, wanted, a)?;
+    Ok(0)
 }
 
-pub fn print_tally(all: u64, good: u64) {
-    io::print_decimal(libc::STDOUT_FILENO, all);
-    print(b" cases, ");
-    io::print_decimal(libc::STDOUT_FILENO, good);
-    print(b" agree\n");
+pub fn print_tally(rt: &HostRuntime, all: u64, good: u64) -> io::Result<()> {
+    println!(rt; "{all} cases, {good} agree")
 }
