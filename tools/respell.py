@@ -63,32 +63,38 @@ def snake(name):
     return "-".join(parts)
 
 
-def joined(name, words):
-    """A dash stays only between two names."""
+def joined(name, names, operations, types):
+    """A dash stays between a type or a definition and an operation of lists or numbers, and between two of these."""
     parts = name.split("-")
     if len(parts) == 1 or not all(parts):
         return name
     out = parts[0]
     for k in range(1, len(parts)):
-        before, behind = re.split("-", out)[-1], "_".join(parts[k:])
-        here = parts[k]
-        kept = before in words and (behind in words or here in words)
+        before, here = re.split("-", out)[-1], parts[k]
+        kept = before in types or (here in operations and (before in operations or before in names))
         out += ("-" if kept else "_") + here
     return out
+
+
+# single names that the rules don't reach
+OTHERS = {"isT": "is_T", "isF": "is_F", "onT": "on_T", "onF": "on_F", "symbolT": "symbol_T", "symbolF": "symbol_F", "longC": "long_C",
+          "root9T": "root9_T", "root9F": "root9_F", "root9T-fwd": "root9_T_fwd", "root9F-fwd": "root9_F_fwd", "root9T_fwd": "root9_T_fwd", "root9F_fwd": "root9_F_fwd",
+          "one-Cell": "one_cell", "one_Cell": "one_cell", "readAt": "read_at", "applyAll'": "apply_all'"}
 
 
 def table():
     own, spec = declared()
     library = imported()
-    words = OPERATIONS | {snake(n) for n in spec if "-" not in n and len(n) > 3} | {n for n in library if "-" not in n and len(n) > 3}
-    words |= {n for n in own if n[:1].isupper()}
+    types = {n for n in own if n[:1].isupper()}
+    names = types | {snake(n) for n in own if "-" not in n}
     new = {}
     for name in sorted(own):
         if name in library:
             continue
-        now = joined(snake(name), words)
+        now = joined(snake(name), names, OPERATIONS, types)
         if now != name:
             new[name] = now
+    new.update(OTHERS)
     return new, own, library
 
 

@@ -1,5 +1,5 @@
 -- The ring of waiting values: what is let wait is held, the other places are as they were, and what waits goes on to wait.
-use Prim.Native.Nat.{ℕ, ◌-◌, ◌%◌}
+use Prim.Native.Nat.{ℕ, ◌%◌}
 use mathlib.Core.Path.{◌≡◌}
 use mathlib.Core.List.{List}
 use native.Mathlib.Omega.{arith}

@@ -12,7 +12,6 @@ use Rattle.language.specs.declared.Val.{Val}
 use Rattle.language.specs.Objects.{Obj, int, symbol, seq}
 use Rattle.language.specs.Forms.{Form, insert, apply_all, bu, constant_cells}
 use Rattle.language.specs.Tokens.{byte_at}
-use Rattle.language.specs.Reading.{Got}
 use Rattle.theorems.proofs.Refusals.{mark-within}
 use Rattle.tables.specs.Tables.{record_put}
 use Rattle.lexer.specs.Readings.{Skipped}

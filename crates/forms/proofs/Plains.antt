@@ -1,5 +1,5 @@
 -- Marks, words, names and constants: a law for each way out of their readers, and for each call that they make.
-use Prim.Native.Nat.{ℕ, ◌+◌, ◌-◌, ◌≤◌, ◌<◌}
+use Prim.Native.Nat.{ℕ, ◌+◌, ◌≤◌, ◌<◌}
 use mathlib.Core.Path.{◌≡◌, refl, ap, sym, ◌∙◌}
 use mathlib.Core.Bool.{Bool, true, false, and-eq-true_iff}
 use borrow.Author.Tests.{eq-eqb, ne_eqb}

@@ -5,7 +5,7 @@ use mathlib.Core.List.{List, ◌++◌}
 use native.Mathlib.Omega.{arith}
 use lib.ListN.{length}
 use Rattle.language.specs.Forms.{Form, condition, while, constant_cells}
-use Rattle.language.specs.Reading.{Got, got, no, and_then, mark, after_test}
+use Rattle.language.specs.Reading.{Got, got, and_then, mark, after_test}
 use Rattle.tables.specs.Tables.{record_put, shifted}
 use Rattle.formtable.specs.Encoding.{encode_form, constants_from}
 use Rattle.forms.specs.declared.Upto.{Upto}

@@ -10,7 +10,7 @@ use lib.ListN.{length, take, drop}
 use Rattle.language.specs.Bytes.{bytes, same_bytes}
 use Rattle.language.specs.Objects.{Obj, cells_of}
 use Rattle.language.specs.Words.{Op, ops}
-use Rattle.language.specs.Forms.{Form, word, name, construct, constant, insert, apply_all, bu, condition, while, Forms, ◌&◌, Word, op, forms_in, forms_in_all, constant_cells, constant_cells_all}
+use Rattle.language.specs.Forms.{Form, word, name, construct, constant, insert, apply_all, bu, condition, while, Forms, Word, op, forms_in, forms_in_all, constant_cells, constant_cells_all}
 use Rattle.language.specs.Tokens.{is_digit, is_letter, byte_at, span, place_from, size_at}
 use Rattle.language.specs.Judging.{Judged, is, is_not, on_judged, is_name_byte, judge_word, is_selector, find_op, judge_selector, word_form, judge_part}
 use Rattle.language.specs.Reading.{Got, got, and_then, word_at, as_judged, mark, read_obj, after_test, after_part, after_parts, after_form, read_form, read_parts, read_forms, read_part}

@@ -1,5 +1,5 @@
 -- The readers of a text with enough calls, which never decide (theorems' Calls): what is read from a place on.
-use Rattle.std.specs.Prelude.{ℕ, ◌+◌, ◌-◌, Bool, cond, ◌&&◌, ◌||◌, List, eqb}
+use Rattle.std.specs.Prelude.{ℕ, ◌+◌, Bool, cond, ◌&&◌, ◌||◌, List, eqb}
 use Prim.Native.Char.{code}
 use Rattle.language.specs.Objects.{Obj}
 use Rattle.language.specs.Forms.{Form, chain, construct, constant, insert, apply_all, bu, condition, while, Forms, ◌&◌}

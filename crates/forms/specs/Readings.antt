@@ -1,5 +1,5 @@
 -- What the readers' answers say of what is read, and what the tables hold then.
-use Rattle.std.specs.Prelude.{ℕ, ◌+◌, ◌-◌, ◌*◌, ◌≤◌, ◌<◌, ◌≡◌, List, ◌++◌, length}
+use Rattle.std.specs.Prelude.{ℕ, ◌+◌, ◌*◌, ◌≤◌, ◌<◌, ◌≡◌, List, ◌++◌, length}
 use Prim.Native.Char.{code}
 use Rattle.language.specs.Numbers.{program_limit}
 use Rattle.language.specs.Objects.{Obj}

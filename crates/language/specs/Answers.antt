@@ -1,5 +1,5 @@
 -- The answer of each call, complete: the six numbers, and what stands in each lent buffer afterwards.
-use Rattle.std.specs.Prelude.{ℕ, ◌+◌, min, cond, ◌||◌, not, List, ◌++◌, leb, ltb, eqb, length, drop, replicate}
+use Rattle.std.specs.Prelude.{ℕ, min, cond, ◌||◌, not, List, ◌++◌, leb, ltb, eqb, length, drop, replicate}
 use Rattle.std.proofs.Math.Option.{Option, some, none}
 use Rattle.language.specs.Objects.{Obj}
 use Rattle.language.specs.Forms.{Prog}

@@ -1,5 +1,5 @@
 -- The program fprun: from the bytes of standard input to the bytes of standard output.
-use Rattle.std.specs.Prelude.{ℕ, ◌+◌, Bool, true, false, cond, ◌&&◌, not, List, [], ◌∷◌, ◌++◌, leb, eqb, length, take, replicate}
+use Rattle.std.specs.Prelude.{ℕ, Bool, true, false, cond, ◌&&◌, not, List, [], ◌∷◌, ◌++◌, leb, eqb, length, take, replicate}
 use Prim.Native.Char.{code}
 use Rattle.std.proofs.Math.Option.{Option, some, none}
 use Rattle.language.specs.Bytes.{bytes}

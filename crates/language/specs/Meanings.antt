@@ -1,5 +1,5 @@
 -- What each word answers: bottom, or an object with the steps it asks for beyond its own and its cells.
-use Rattle.std.specs.Prelude.{ℕ, zero, suc, ◌+◌, ◌*◌, ◌-◌, Bool, true, false, ◌&&◌, ◌||◌, not as opposite, ℤ, pos, negsuc, ◌+ℤ◌, ◌-ℤ◌, ◌*ℤ◌, eqb, ltb}
+use Rattle.std.specs.Prelude.{ℕ, zero, suc, ◌+◌, ◌-◌, Bool, true, false, ◌&&◌, ◌||◌, not as opposite, ℤ, pos, negsuc, ◌+ℤ◌, ◌-ℤ◌, ◌*ℤ◌, eqb, ltb}
 use Rattle.std.proofs.Math.Option.{Option, some, none}
 use Rattle.std.specs.Int.Signed.{lt_z, quot_z}
 use Rattle.language.specs.Bytes.{same_bytes}

@@ -6,7 +6,7 @@ use mathlib.Core.List.{List, [], ◌∷◌, ◌++◌, append_assoc, append-nil}
 use native.Mathlib.Omega.{arith}
 use lib.ListN.{length, get_or}
 use Rattle.language.specs.Bytes.{bytes}
-use Rattle.language.specs.Forms.{Form, word, Forms, stop, ◌&◌, ◌+&◌, count, is_chain}
+use Rattle.language.specs.Forms.{Form, Forms, stop, ◌&◌, ◌+&◌, count, is_chain}
 use Rattle.language.specs.Writing.{write_form, bracketed}
 use Rattle.language.specs.declared.Val.{Val}
 use Rattle.cells.specs.Cells.{val_at}

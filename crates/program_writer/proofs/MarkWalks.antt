@@ -8,7 +8,7 @@ use borrow.Author.Tests.{eqb-true, eqb-false}
 use lib.Dec.{eqb}
 use lib.ListN.{get_or}
 use Rattle.language.specs.Objects.{Obj, seq, Objs, nil, ◌::◌, length_of}
-use Rattle.language.specs.Forms.{Form, word, Forms, stop, ◌&◌, ◌+&◌, count, is_chain}
+use Rattle.language.specs.Forms.{Form, Forms, stop, ◌&◌, ◌+&◌, count, is_chain}
 use Rattle.language.specs.Writing.{bracket_marks, marks_of, marks_of_obj, marks_of_objs}
 use Rattle.language.specs.declared.Val.{Val}
 use Rattle.cells.specs.Cells.{Rep, rep_pos, rep_neg, rep_symbol, rep_nil, rep_more, val_at}

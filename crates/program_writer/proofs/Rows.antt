@@ -9,9 +9,8 @@ use lib.Dec.{eqb}
 use lib.IntN.{pos}
 use lib.ListN.{take}
 use lib.Seq.{take_at}
-use Rattle.language.specs.Bytes.{bytes}
 use Rattle.language.specs.Objects.{Obj, int}
-use Rattle.language.specs.Forms.{Form, word, chain, construct, constant, insert, bu, condition, while}
+use Rattle.language.specs.Forms.{Form, constant, bu}
 use Rattle.language.specs.Accepted.{IsName}
 use Rattle.packing.specs.Packing.{packed}
 use Rattle.language.specs.Writing.{write_obj, write_integer, write_word, decimal}

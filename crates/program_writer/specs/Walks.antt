@@ -1,5 +1,5 @@
 -- What the walks over texts and forms answer: the place behind the text, and what stands in the output then.
-use Rattle.std.specs.Prelude.{ℕ, min, ◌+◌, ◌-◌, ◌≤◌, ◌<◌, ◌≡◌, List, length}
+use Rattle.std.specs.Prelude.{ℕ, min, ◌+◌, ◌≤◌, ◌<◌, ◌≡◌, List, length}
 use Prim.Native.Char.{code}
 use Rattle.language.specs.Numbers.{form_limit, mark_limit, written_limit}
 use Rattle.language.specs.Objects.{Obj}

@@ -64,7 +64,7 @@ definitions_more D ds s at j e₁ e₂ p n g r = subst (λ (q : ℕ). from q ≡
     from : ℕ → Got (List Placed)
     from q =
         cond (eqb q (length s)) (got [] q)
-            (and_then (and_then (as_judged s q (judge_name (word_at s q))) (λ w e. definition_at j s q w e)) (λ d e. and_then (read_definitions j s e) (λ ds' e'. got (d ∷ ds') e')))
+        (and_then (and_then (as_judged s q (judge_name (word_at s q))) (λ w e. definition_at j s q w e)) (λ d e. and_then (read_definitions j s e) (λ ds' e'. got (d ∷ ds') e')))
 
 definitions_back : (P : Prog) (s : List ℕ) (at k : ℕ) → AreDefinitions P → marks_of_program P ≤ 32 → drop at s ≡ write_program P → at ≤ length s → 3 * length (write_program P) < k →
     read_definitions k s at ≡ got (placed at P) (length s)

@@ -13,7 +13,7 @@ use Rattle.language.specs.Numbers.{mark_limit}
 use Rattle.language.specs.Writing.{marks_of_program}
 use Rattle.groundwork.specs.Options.{on_some, when}
 use Rattle.language.specs.Laws.{form_of, Law, law1, law2, law3, law4, law5, law6, law7, law8, law9, law10, law11}
-use Rattle.language.specs.Uses.{place, within, among, use_at, with_body, use_in, apply_law, laws, lowest, least, Simplified, simplify_by, simplify}
+use Rattle.language.specs.Uses.{within, use_at, with_body, use_in, apply_law, laws, lowest, least, Simplified, simplify_by, simplify}
 use Rattle.theorems.specs.Demand3.{Uses, no_use, use_then}
 use Rattle.theorems.specs.Simplifier.{NoneAt, NoneOf, First, FirstUses, none_left, first_then, Simplifies, SimplifierUses, NoneAfter}
 use Rattle.theorems.proofs.Inversions.{none-some}

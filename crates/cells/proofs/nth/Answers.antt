@@ -1,4 +1,3 @@
-use Prim.Native.Nat.{◌-◌}
 use Rattle.cells.proofs.Places.{walk_start, walk_next, walk_end}
 use Rattle.cells.proofs.nth.Goals as goal
 

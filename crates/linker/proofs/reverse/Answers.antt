@@ -1,4 +1,3 @@
-use Prim.Native.Nat.{◌-◌}
 use Rattle.linker.proofs.Walks.{turn_start, turn_next, turn_end}
 use Rattle.linker.proofs.reverse.Goals as goal
 

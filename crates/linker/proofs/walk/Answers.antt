@@ -1,4 +1,3 @@
-use Prim.Native.Nat.{◌-◌}
 use Rattle.linker.proofs.Walks.{walk_start, walk_next, walk_end}
 use Rattle.linker.proofs.walk.Goals as goal
 

@@ -1,5 +1,4 @@
 use native.Mathlib.Omega.{arith}
-use Prim.Native.Nat.{◌-◌}
 use lib.ListN.{length-set}
 use Rattle.packing.proofs.Packed.{unpack_on, unpack_rest, unpack_out, unpack_full}
 use Rattle.packing.proofs.unpack.Goals as goal

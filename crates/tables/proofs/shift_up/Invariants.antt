@@ -1,5 +1,5 @@
 -- `tables::shift_up` moves records up: in the loop, the numbers from i on stand four places higher.
-use Prim.Native.Nat.{◌≤◌, ◌-◌, ◌+◌, ◌*◌}
+use Prim.Native.Nat.{◌≤◌, ◌+◌, ◌*◌}
 use lib.ListN.{length}
 use lib.Seq.{slice}
 use mathlib.Core.Path.{◌≡◌}

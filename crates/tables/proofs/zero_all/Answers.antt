@@ -1,4 +1,3 @@
-use Prim.Native.Nat.{◌-◌}
 use Rattle.tables.proofs.Records.{zero_start, zero_turn, zero_end}
 use Rattle.tables.proofs.zero_all.Goals as goal
 

@@ -1,4 +1,3 @@
-use Prim.Native.Nat.{◌-◌}
 use Rattle.call_lines.proofs.Splits.{find_start, find_on, find_here, find_over}
 use Rattle.call_lines.proofs.cutting.find.Goals as goal
 

@@ -1,4 +1,3 @@
-use Prim.Native.Nat.{◌-◌}
 use Rattle.call_lines.proofs.Spelled.{digits_start, digits_on, digits_out, digits_over}
 use Rattle.call_lines.proofs.numerals.all_digits.Goals as goal
 

@@ -1,4 +1,3 @@
-use Prim.Native.Nat.{◌-◌}
 use Rattle.evaluator.proofs.Steps.{below_step, applied_as, below_open, below-taken, fell_by}
 use Rattle.evaluator.proofs.Chains.{chain_start, chain_next, chain-stop, chain_end, ask_stop, ask_yes, ask_no, ask_none, below-says, cond-stop, cond-done, name-none, name_full, name-stop, may_close, name_done}
 use Rattle.evaluator.proofs.Builds.{slot_done, slot_stop, build_start, build_turn, build_halt, build_done, map-atom, map_start, map_turn, map_halt, map-done}

@@ -1,4 +1,3 @@
-use Prim.Native.Nat.{◌-◌}
 use Rattle.evaluator.proofs.Copies.{copy_start, copy_turn, copy_end}
 use Rattle.evaluator.proofs.run.copied.Goals as goal
 

@@ -1,4 +1,3 @@
-use Prim.Native.Nat.{◌-◌}
 use native.Mathlib.Omega.{arith}
 use Rattle.evaluator.proofs.Spreads.{spread_start, spread_next, spread_end}
 use Rattle.evaluator.proofs.waiting.spread.Goals as goal

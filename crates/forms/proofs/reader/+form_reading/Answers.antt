@@ -1,5 +1,4 @@
 use borrow.Author.Rules.{rules}
-use Prim.Native.Nat.{◌-◌}
 use Rattle.forms.proofs.Chains.{chain-below, chain_is, chain_ready, chain_stops, count_fits, dot_requires, form_chains, form_one, form_stops}
 use Rattle.forms.proofs.Rows.{construct_is, construct_stops, forms-below, forms_comma_requires, forms-count-fits, forms-last, forms_less, forms_next, forms-other, forms-stop, parts_below, parts-count-fits, parts_dot_requires, parts_last, parts_less, parts_next, parts-stop, row_starts}
 use Rattle.forms.proofs.Parts.{bu_bound_requires, bu_is, bu_put_requires, bu_stops, bu_unbound, construct-below, part-apply, part_bu, part-constant, part-construct, part-deep, part-insert, part-plain_out, part_ready, part_round, prefix_below, prefix_is, prefix_stops, round_below}

@@ -1,5 +1,4 @@
 use native.Mathlib.Omega.{arith}
-use Prim.Native.Nat.{◌-◌}
 use Rattle.lexer.proofs.Spans.{span_on, span_out, span_over}
 use Rattle.lexer.proofs.reader.span_end.Goals as goal
 

@@ -1,5 +1,4 @@
 use native.Mathlib.Omega.{arith}
-use Prim.Native.Nat.{◌-◌}
 use Rattle.lexer.proofs.Words.{find_on, find_here, find_none}
 use Rattle.lexer.proofs.vocabulary.find_row.Goals as goal
 

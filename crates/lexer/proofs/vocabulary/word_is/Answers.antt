@@ -1,5 +1,4 @@
 use native.Mathlib.Omega.{arith}
-use Prim.Native.Nat.{◌-◌}
 use Rattle.lexer.proofs.Words.{word_lengths, word_on, word_differs, word_end, none_left}
 use Rattle.lexer.proofs.vocabulary.word_is.Goals as goal
 

@@ -1,4 +1,3 @@
-use Prim.Native.Nat.{◌-◌}
 use Rattle.linker.proofs.Naming.{index_far, indexing_start, indexing_next, indexing_end}
 use Rattle.linker.proofs.names.index.Goals as goal
 

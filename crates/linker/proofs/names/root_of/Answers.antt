@@ -1,4 +1,3 @@
-use Prim.Native.Nat.{◌-◌}
 use Rattle.linker.proofs.Naming.{find_start, find_next, find_here, find_end}
 use Rattle.linker.proofs.names.root_of.Goals as goal
 

@@ -1,4 +1,4 @@
-use Rattle.std.proofs.Common.{◌-◌, arith, rules}
+use Rattle.std.proofs.Common.{arith, rules}
 use Rattle.objects.proofs.ObjectReads.{inside, object-word, object_full, object_empty, object_places, place-last, place_bad, place-more, place_no, going_start, going_on, going_no, going_last}
 use Rattle.objects.proofs.reader.+object_reading.Goals as goal
 

@@ -1,4 +1,3 @@
-use Rattle.std.proofs.Common.{◌-◌}
 use Rattle.objects.proofs.Writes.{obj_atom, obj_deep, obj_full, obj_empty, obj_places, place-fits, place_short, place-deep, place-done, places_start, places_turn, places_short, places_deep, places_end}
 use Rattle.objects.proofs.writer.+object_writing.Goals as goal
 

@@ -1,4 +1,4 @@
-use Rattle.std.proofs.Common.{◌-◌, arith}
+use Rattle.std.proofs.Common.{arith}
 use Rattle.objects.proofs.NumberTexts.{put_none_yet, put_small, put_far, put_turn, put_end}
 use Rattle.objects.proofs.writer.put_text.Goals as goal
 

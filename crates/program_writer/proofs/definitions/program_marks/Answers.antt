@@ -1,4 +1,3 @@
-use Prim.Native.Nat.{◌-◌}
 use Rattle.program_writer.proofs.Programs.{most_start, most_turn, most_end}
 use Rattle.program_writer.proofs.definitions.program_marks.Goals as goal
 

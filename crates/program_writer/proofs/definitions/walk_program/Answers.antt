@@ -1,4 +1,3 @@
-use Prim.Native.Nat.{◌-◌}
 use Rattle.program_writer.proofs.Programs.{definitions_start, definitions_turn, definitions_end}
 use Rattle.program_writer.proofs.definitions.walk_program.Goals as goal
 

@@ -1,4 +1,3 @@
-use Prim.Native.Nat.{◌-◌}
 use Rattle.program_writer.proofs.FormWalks.{form_out, form-done, part-plain, part_free, part-bracketed, parts_start, parts_turn, parts-done}
 use Rattle.program_writer.proofs.forms.+form_writing.Goals as goal
 

@@ -1,4 +1,3 @@
-use Prim.Native.Nat.{◌-◌}
 use Rattle.program_writer.proofs.MarkWalks.{depth_out, depth_flat, depth_open, depth_plain, depth_free, depth_bracketed, depth_start, depth_turn, depth_end}
 use Rattle.program_writer.proofs.marks.+marks_of_forms.Goals as goal
 

@@ -1,4 +1,3 @@
-use Prim.Native.Nat.{◌-◌}
 use Rattle.program_writer.proofs.Wrote.{copy_start, copy_turn, copy_end}
 use Rattle.program_writer.proofs.texts.walk_bytes.Goals as goal
 

@@ -1,4 +1,3 @@
-use Prim.Native.Nat.{◌-◌}
 use Rattle.program_writer.proofs.Wrote.{copy_begin, copy_turn, copy_all}
 use Rattle.program_writer.proofs.texts.walk_word.Goals as goal
 

@@ -1,4 +1,3 @@
-use Prim.Native.Nat.{◌-◌}
 use Rattle.programs.proofs.Naming.{single_starts, twice_found, twice_next, twice_none}
 use Rattle.programs.proofs.definitions.find_twice.Goals as goal
 

@@ -1,4 +1,3 @@
-use Prim.Native.Nat.{◌-◌}
 use Rattle.programs.proofs.Naming.{unlike_starts, earlier_found, earlier_next, earlier_none}
 use Rattle.programs.proofs.definitions.is_earlier.Goals as goal
 

@@ -1,4 +1,3 @@
-use Prim.Native.Nat.{◌-◌}
 use Rattle.programs.proofs.Defining.{defining_starts, definitions_end, definition_requires, definitions-stop, definitions_next, definitions_less, definitions-count-fits}
 use Rattle.programs.proofs.definitions.read_definitions.Goals as goal
 

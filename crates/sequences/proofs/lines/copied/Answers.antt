@@ -1,5 +1,4 @@
 use native.Mathlib.Omega.{arith}
-use Prim.Native.Nat.{◌-◌}
 use Rattle.sequences.proofs.Copying.{copy_far, copy_start, copy_next, copy_end}
 use Rattle.sequences.proofs.lines.copied.Goals as goal
 
