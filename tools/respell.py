@@ -191,7 +191,8 @@ def main():
         here = dict(new)
         crate = path.split("/")[1]
         for name in LEMMAS.get(crate, []):
-            here[name] = name + "_lem"
+            if re.sub(r"_(.)", lambda m: m.group(1).upper(), name) in new:
+                here[name] = name + "_lem"
         rewrite(path, lambda t: turn_antt(t, here))
     for path in glob.glob("crates/*/src/**/*.rt", recursive=True):
         rewrite(path, lambda t: turn_rt(t, new))

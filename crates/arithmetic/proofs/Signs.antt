@@ -54,8 +54,8 @@ negated_positive {v} {r} s e h = record { small = neg_small v.word (omega (arith
     go (negsuc k) (holds_neg f g) = absurd (e f)
 
 -- ---- sums
-pub add-alike : {a b r : Val} → a.tag ≡ b.tag → r.tag ≡ a.tag → r.word ≡ a.word + b.word + a.tag → Computes ◌+ℤ◌ a b r
-add-alike {a} {b} {r} e t w = record { means = go }
+pub add_alike : {a b r : Val} → a.tag ≡ b.tag → r.tag ≡ a.tag → r.word ≡ a.word + b.word + a.tag → Computes ◌+ℤ◌ a b r
+add_alike {a} {b} {r} e t w = record { means = go }
   where
     go : (i j : ℤ) → HoldsInteger a i → HoldsInteger b j → HoldsInteger r (i +ℤ j)
     go (pos k) (pos l) (holds_pos f g) (holds_pos f₂ g₂) = pos_is (k + l) (t ∙ f) (omega arith)
@@ -63,8 +63,8 @@ add-alike {a} {b} {r} e t w = record { means = go }
     go (negsuc k) (pos l) (holds_neg f g) (holds_pos f₂ g₂) = absurd (omega arith)
     go (negsuc k) (negsuc l) (holds_neg f g) (holds_neg f₂ g₂) = neg_is (suc (k + l)) (t ∙ f) (omega arith)
 
-pub add-first : {a b r : Val} → (a.tag ≡ b.tag → ⊥) → a.tag ≡ 0 → HoldsInteger r (sub_ℕ a.word (b.word + 1)) → Computes ◌+ℤ◌ a b r
-add-first {a} {b} {r} e z h = record { means = go }
+pub add_first : {a b r : Val} → (a.tag ≡ b.tag → ⊥) → a.tag ≡ 0 → HoldsInteger r (sub_ℕ a.word (b.word + 1)) → Computes ◌+ℤ◌ a b r
+add_first {a} {b} {r} e z h = record { means = go }
   where
     go : (i j : ℤ) → HoldsInteger a i → HoldsInteger b j → HoldsInteger r (i +ℤ j)
     go (pos k) (pos l) (holds_pos f g) (holds_pos f₂ g₂) = absurd (e (f ∙ sym f₂))
@@ -73,8 +73,8 @@ add-first {a} {b} {r} e z h = record { means = go }
         rw (g, u) at h
     go (negsuc k) j (holds_neg f g) hj = absurd (omega arith)
 
-pub add-second : {a b r : Val} → (a.tag ≡ b.tag → ⊥) → (a.tag ≡ 0 → ⊥) → HoldsInteger r (sub_ℕ b.word (a.word + 1)) → Computes ◌+ℤ◌ a b r
-add-second {a} {b} {r} e z h = record { means = go }
+pub add_second : {a b r : Val} → (a.tag ≡ b.tag → ⊥) → (a.tag ≡ 0 → ⊥) → HoldsInteger r (sub_ℕ b.word (a.word + 1)) → Computes ◌+ℤ◌ a b r
+add_second {a} {b} {r} e z h = record { means = go }
   where
     go : (i j : ℤ) → HoldsInteger a i → HoldsInteger b j → HoldsInteger r (i +ℤ j)
     go (pos k) j (holds_pos f g) hj = absurd (z f)

@@ -12,11 +12,11 @@ telling_determined program object b lent answer forms forms' cells cells' output
     let same = run_determined program object b lent p.result q.result forms forms' cells cells' output output' p.run q.run in
     (same.1, same.2, same.3, p.telling.is ∙ ap (told answer) same.0 ∙ sym q.telling.is)
 
-pub told-first : ToldFirst
-told-first [] r = refl
-told-first (a ∷ []) r = refl
-told-first (a ∷ b ∷ []) r = refl
-told-first (a ∷ b ∷ c ∷ []) r = refl
-told-first (a ∷ b ∷ c ∷ d ∷ []) r = refl
-told-first (a ∷ b ∷ c ∷ d ∷ e ∷ []) r = refl
-told-first (a ∷ b ∷ c ∷ d ∷ e ∷ f ∷ rest) r = rw (take-nil {A = ℕ} (length rest))
+pub told_first : ToldFirst
+told_first [] r = refl
+told_first (a ∷ []) r = refl
+told_first (a ∷ b ∷ []) r = refl
+told_first (a ∷ b ∷ c ∷ []) r = refl
+told_first (a ∷ b ∷ c ∷ d ∷ []) r = refl
+told_first (a ∷ b ∷ c ∷ d ∷ e ∷ []) r = refl
+told_first (a ∷ b ∷ c ∷ d ∷ e ∷ f ∷ rest) r = rw (take-nil {A = ℕ} (length rest))

@@ -28,8 +28,8 @@ module _ {n first : ℕ} {a : List ℕ} (small : n < 4294967296) (twenty : lengt
   pub so_many : 20 - first ≡ length (decimal n)
   so_many = omega (arith, length-drop first a, ap length d.is)
 
-  pub room-behind : (at : ℕ) (out out₁ : List ℕ) → at + 11 ≤ length out → length out₁ ≡ length out → at + (20 - first) < length out₁
-  room-behind at out out₁ h l = omega (arith, so_many, ten_digits n small)
+  pub room_behind : (at : ℕ) (out out₁ : List ℕ) → at + 11 ≤ length out → length out₁ ≡ length out → at + (20 - first) < length out₁
+  room_behind at out out₁ h l = omega (arith, so_many, ten_digits n small)
 
   pub print_one : (at b : ℕ) {out out₁ : List ℕ} → at + 11 ≤ length out → PutText out at (slice first 20 a) out₁ → length out₁ ≡ length out
       → Printed (decimal n ++ (b ∷ [])) 11 out at (at + (20 - first) + 1) (set out₁ (at + (20 - first)) b)

@@ -16,7 +16,7 @@ use Rattle.language.specs.Fprun.{split, on_three, is_numeral, on_numeral}
 use Rattle.language.specs.declared.Meter.{Meter}
 use Rattle.theorems.proofs.JudgedWords.{value_bound}
 use Rattle.packing.proofs.Slices.{slice_first}
-use Rattle.lexer.proofs.Spans.{slice-none}
+use Rattle.lexer.proofs.Spans.{slice_none}
 use Rattle.call_lines.specs.Cutting.{Found}
 use Rattle.call_lines.proofs.Splits.{pieces, cut_here}
 use Rattle.call_lines.specs.Budgets.{NumeralRead, a_numeral, no_numeral, ThreeRead, BudgetsRead, three_in}
@@ -48,7 +48,7 @@ module _ {s : List ℕ} {from to i : ℕ} where
   digits_out {t} g h e f p = sym (p.is ∙ ap (all is_digit) (slice_first s i to h g.1) ∙ ap (λ (u : Bool). u && all is_digit (slice (i + 1) to s)) (sym e ∙ not-true t f))
 
   pub digits_over : (from ≤ to) × (to ≤ length s) → to ≤ i → DigitsUpTo s from to i → true ≡ all is_digit (slice from to s)
-  digits_over g h p = sym (p.is ∙ ap (all is_digit) (slice-none s i to g.1 h))
+  digits_over g h p = sym (p.is ∙ ap (all is_digit) (slice_none s i to g.1 h))
 
 -- ---- one numeral
 small : (ds : List ℕ) → all is_digit ds ≡ true → length ds ≤ 7 → value_of ds < 10000000

@@ -12,7 +12,7 @@ use lib.ListN.{length, take, get_or}
 use lib.Seq.{slice, slice_empty, take-suc, take-length, drop-append-le, length-take-le}
 use Rattle.language.specs.Fprun.{put_first, split, on_lines}
 use Rattle.packing.proofs.Slices.{slice_first}
-use Rattle.lexer.proofs.Spans.{slice-none}
+use Rattle.lexer.proofs.Spans.{slice_none}
 use Rattle.call_lines.specs.Cutting.{Found, LinesCut, three_lines, other_shape}
 use Rattle.call_lines.specs.declared.Lines.TheVariants.{Three, Other}
 
@@ -25,20 +25,20 @@ prefixed_snoc : (p : List ℕ) (c : ℕ) (ws : List (List ℕ)) → prefixed p (
 prefixed_snoc p c [] = refl
 prefixed_snoc p c (w ∷ ws) = rw (append_assoc p (c ∷ []) w)
 
-split-found : (b c : ℕ) (s : List ℕ) → eqb c b ≡ true → split b (c ∷ s) ≡ [] ∷ split b s
+split_found : (b c : ℕ) (s : List ℕ) → eqb c b ≡ true → split b (c ∷ s) ≡ [] ∷ split b s
 unfolding split
-split-found b c s e = rw (e, split)
+split_found b c s e = rw (e, split)
 
 split_passed : (b c : ℕ) (s : List ℕ) → eqb c b ≡ false → split b (c ∷ s) ≡ put_first c (split b s)
 unfolding split
 split_passed b c s e = rw (e, split)
 
-split-none : (b : ℕ) → split b [] ≡ [] ∷ []
+split_none : (b : ℕ) → split b [] ≡ [] ∷ []
 unfolding split
-split-none b = refl
+split_none b = refl
 
-slice-last : (s : List ℕ) (from i : ℕ) → from ≤ i → i < length s → slice from (i + 1) s ≡ slice from i s ++ (get_or s i 0 ∷ [])
-slice-last s from i l h =
+slice_last : (s : List ℕ) (from i : ℕ) → from ≤ i → i < length s → slice from (i + 1) s ≡ slice from i s ++ (get_or s i 0 ∷ [])
+slice_last s from i l h =
     let m = length-take-le i s (omega arith) in
     rw (add-one, take-suc s i 0 h) (drop-append-le from (take i s) (get_or s i 0 ∷ []) (omega arith))
 
@@ -80,7 +80,7 @@ module _ {b : ℕ} {s : List ℕ} {from to : ℕ} where
         is = p.is ∙ ap (λ (x : List ℕ). prefixed (slice from i s) (split b x)) (slice_first s i to h fits)
             ∙ ap (prefixed (slice from i s)) (split_passed b (get_or s i 0) (slice (i + 1) to s) (ne_eqb (get_or s i 0) b e))
             ∙ prefixed_snoc (slice from i s) (get_or s i 0) (split b (slice (i + 1) to s))
-            ∙ ap (λ (x : List ℕ). prefixed x (split b (slice (i + 1) to s))) (sym (slice-last s from i l (omega arith)));
+            ∙ ap (λ (x : List ℕ). prefixed x (split b (slice (i + 1) to s))) (sym (slice_last s from i l (omega arith)));
       }
 
   pub find_here : {i : ℕ} → (from ≤ to) × (to ≤ length s) → i < to → get_or s i 0 ≡ b → Passed b s from to i → Found b s from to i
@@ -88,7 +88,7 @@ module _ {b : ℕ} {s : List ℕ} {from to : ℕ} where
     low = p.low;
     high = p.high;
     here = λ z. p.is ∙ ap (λ (x : List ℕ). prefixed (slice from i s) (split b x)) (slice_first s i to h g.1)
-        ∙ ap (prefixed (slice from i s)) (split-found b (get_or s i 0) (slice (i + 1) to s) (eq-eqb (get_or s i 0) b e))
+        ∙ ap (prefixed (slice from i s)) (split_found b (get_or s i 0) (slice (i + 1) to s) (eq-eqb (get_or s i 0) b e))
         ∙ ap (λ (x : List ℕ). x ∷ split b (slice (i + 1) to s)) (append-nil (slice from i s));
     nowhere = λ z. absurd (omega arith);
   }
@@ -101,8 +101,8 @@ module _ {b : ℕ} {s : List ℕ} {from to : ℕ} where
         low = p.low;
         high = l;
         here = λ z. absurd (omega arith);
-        nowhere = λ z. p.is ∙ ap (λ (x : List ℕ). prefixed (slice from i s) (split b x)) (slice-none s i to g.1 h)
-            ∙ ap (prefixed (slice from i s)) (split-none b)
+        nowhere = λ z. p.is ∙ ap (λ (x : List ℕ). prefixed (slice from i s) (split b x)) (slice_none s i to g.1 h)
+            ∙ ap (prefixed (slice from i s)) (split_none b)
             ∙ ap (λ (x : List ℕ). x ∷ []) (append-nil (slice from i s) ∙ ap (λ (k : ℕ). slice from k s) e);
       }
 
@@ -161,11 +161,11 @@ module _ {s : List ℕ} {a : ℕ} (one : Found 10 s 0 (length s) a) where
             third_cut : split 10 s ≡ slice 0 a s ∷ slice (a + 1) b s ∷ slice (b + 1) c s ∷ split 10 (slice (c + 1) (length s) s)
             third_cut = second_cut ∙ ap (λ (x : List (List ℕ)). slice 0 a s ∷ slice (a + 1) b s ∷ x) (three.here (cut_here three is-three))
 
-            pub more-behind : c + 1 < length s → LinesCut s Other
-            more-behind l = other_shape (λ k. rw (third_cut, slice_first s (c + 1) (length s) l (omega arith)) (behind (slice 0 a s) (slice (a + 1) b s) (slice (b + 1) c s) (get_or s (c + 1) 0) (slice (c + 1 + 1) (length s) s) k))
+            pub more_behind : c + 1 < length s → LinesCut s Other
+            more_behind l = other_shape (λ k. rw (third_cut, slice_first s (c + 1) (length s) l (omega arith)) (behind (slice 0 a s) (slice (a + 1) b s) (slice (b + 1) c s) (get_or s (c + 1) 0) (slice (c + 1 + 1) (length s) s) k))
 
             pub cut_three : length s ≤ c + 1 → LinesCut s (Three a b c)
             cut_three l =
                 let h = cut_here three is-three in
                 three_lines two.low three.low (omega arith)
-                (third_cut ∙ ap (λ (x : List (List ℕ)). slice 0 a s ∷ slice (a + 1) b s ∷ slice (b + 1) c s ∷ x) (ap (split 10) (slice-none s (c + 1) (length s) (omega arith) l) ∙ split-none 10))
+                (third_cut ∙ ap (λ (x : List (List ℕ)). slice 0 a s ∷ slice (a + 1) b s ∷ slice (b + 1) c s ∷ x) (ap (split 10) (slice_none s (c + 1) (length s) (omega arith) l) ∙ split_none 10))

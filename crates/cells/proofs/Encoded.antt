@@ -20,16 +20,16 @@ use Rattle.cells.proofs.Reps.{val_same}
 mutual
   unfolding cells_from places_from
 
-  pub length-cells : (x : Obj) (c : ℕ) → length (cells_from c x) ≡ cells_of x * 4
-  length-cells (int z) c = refl
-  length-cells (symbol w) c = refl
-  length-cells (seq xs) c = length_places xs c
+  pub length_cells : (x : Obj) (c : ℕ) → length (cells_from c x) ≡ cells_of x * 4
+  length_cells (int z) c = refl
+  length_cells (symbol w) c = refl
+  length_cells (seq xs) c = length_places xs c
 
   pub length_places : (xs : Objs) (c : ℕ) → length (places_from c xs) ≡ cells_of_all xs * 4
   length_places nil c = refl
   length_places (x :: xs) c =
       let a = length-append (cells_from (c + 1) x) (places_from (c + 1 + cells_of x) xs) in
-      let b = length-cells x (c + 1) in
+      let b = length_cells x (c + 1) in
       let d = length_places xs (c + 1 + cells_of x) in
       omega arith
 
@@ -71,7 +71,7 @@ mutual
       let d₀ : drop (c * 4) t ≡ cell v k ++ (cells_from (c + 1) x ++ (places_from e xs ++ rest)) = rw (← (append_assoc (cells_from (c + 1) x) (places_from e xs) rest)) d in
       let s : c * 4 + 4 ≡ (c + 1) * 4 = omega arith in
       let d₁ : drop ((c + 1) * 4) t ≡ cells_from (c + 1) x ++ (places_from e xs ++ rest) = rw (← s) (behind t (c * 4) (cell v k) (cells_from (c + 1) x ++ (places_from e xs ++ rest)) d₀) in
-      let j : (c + 1) * 4 + length (cells_from (c + 1) x) ≡ e * 4 = omega (arith, length-cells x (c + 1)) in
+      let j : (c + 1) * 4 + length (cells_from (c + 1) x) ≡ e * 4 = omega (arith, length_cells x (c + 1)) in
       let d₂ : drop (e * 4) t ≡ places_from e xs ++ rest = rw (← j) (behind t ((c + 1) * 4) (cells_from (c + 1) x) (places_from e xs ++ rest) d₁) in
       let a = cells_rep x (c + 1) n t (places_from e xs ++ rest) i.0 (omega arith) d₁ in
       let b = places_rep xs e n t rest i.1 (omega arith) d₂ in
@@ -85,6 +85,6 @@ module _ (x : Obj) (c : ℕ) (t : List ℕ) (room : (c + cells_of x) * 4 ≤ len
   unfolding put
   put_rep i =
       let l = length-take-le (c * 4) t (omega arith) in
-      let z = length-cells x c in
+      let z = length_cells x c in
       cells_rep x c (c + cells_of x) (take (c * 4) t ++ cells_from c x ++ drop (c * 4 + length (cells_from c x)) t) (drop (c * 4 + length (cells_from c x)) t) i (omega arith)
       (rw append_assoc (drop_at (take (c * 4) t) (cells_from c x ++ drop (c * 4 + length (cells_from c x)) t) (c * 4) l))

@@ -11,7 +11,7 @@ use Rattle.language.specs.declared.Val.{Val}
 use Rattle.tables.specs.Tables.{field}
 use Rattle.cells.specs.Cells.{Rep, rep_nil, rep_more, val_at, next_at, sequence_val, Same, cell_put}
 use Rattle.cells.specs.Parts.{size_of, first_of, Sized, Headed, Tailed, drop_objs, Nth, Paired, held_at, onto, Held, no_held, a_held, Gathered}
-use Rattle.cells.proofs.Reps.{same_refl, same-trans, rep_ext, length-cell, cell_same, rep_new}
+use Rattle.cells.proofs.Reps.{same_refl, same_trans, rep_ext, length_cell, cell_same, rep_new}
 
 -- ---- size, first place, rest
 pub size_is : {v : Val} {r : ℕ} → r ≡ size_of v → Sized v r
@@ -45,11 +45,11 @@ pub tail_is : {C : List ℕ} {v r : Val} {p link n : ℕ} → p ≡ first_of v �
 tail_is {p = p} {n = n} e f s g = tail_of (n - 1) p e (rw s.is) (rw (← f) g)
 
 -- ---- the place k
-pub drop-first : (xs : Objs) (k : ℕ) → k < length_of xs → drop_objs xs k ≡ nth_obj xs k :: drop_objs xs (suc k)
+pub drop_first : (xs : Objs) (k : ℕ) → k < length_of xs → drop_objs xs k ≡ nth_obj xs k :: drop_objs xs (suc k)
 unfolding drop_objs nth_obj
-drop-first nil k h = absurd (omega arith)
-drop-first (x :: xs) zero h = refl
-drop-first (x :: xs) (suc k) h = drop-first xs k (omega arith)
+drop_first nil k h = absurd (omega arith)
+drop_first (x :: xs) zero h = refl
+drop_first (x :: xs) (suc k) h = drop_first xs k (omega arith)
 
 -- what a selector answers
 pub nth_gives : (xs : Objs) (k : ℕ) → k < length_of xs → nth k xs ≡ gives 0 0 (nth_obj xs k)
@@ -91,12 +91,12 @@ unfolding drop_objs
 walk_start e = record { most = omega arith; fits = e; means = λ n xs u l f. f }
 
 pub walk_next : {C : List ℕ} {p₀ k p p₁ q : ℕ} → q < k → Walking C p₀ k p q → p₁ ≡ next_at C p - 1 → p₁ < 4294967296 → Walking C p₀ k p₁ (q + 1)
-walk_next {q = q} h w e f = record { most = omega arith; fits = f; means = λ n xs u l r. rw add-one (from_next u e (rw (drop-first xs q (omega arith)) at (w.means n xs u l r))) }
+walk_next {q = q} h w e f = record { most = omega arith; fits = f; means = λ n xs u l r. rw add-one (from_next u e (rw (drop_first xs q (omega arith)) at (w.means n xs u l r))) }
 
 pub walk_end : {C : List ℕ} {v r : Val} {p₀ k p q : ℕ} → p₀ ≡ first_of v → k ≤ q → Walking C p₀ k p q → r ≡ val_at C p → Nth C v k r
 walk_end {v = v} {k = k} {q = q} e h w t =
     let z : q ≡ k = omega (arith, w.most) in
-    record { means = λ n xs u l r. rw (← z, t) (from_head u (rw (drop-first xs q (omega arith)) at (w.means n xs u l (record { val = v; first = e; rep = r })))) }
+    record { means = λ n xs u l r. rw (← z, t) (from_head u (rw (drop_first xs q (omega arith)) at (w.means n xs u l (record { val = v; first = e; rep = r })))) }
 
 -- ---- a pair
 pub pair_far : {C C' : List ℕ} {p : ℕ} {a b r : Val} → 4294967293 < p → Paired C p a b r C'
@@ -109,11 +109,11 @@ pair_is {C} {C₁} {C₂} {p} {a} {b} {r} e f g = record { means = λ x y l h ra
     go x y h ra rb =
         let s₁ : Same C C₁ p = rw e (cell_same C p b 0) in
         let r₁ : Rep C₁ (p + 1) (sequence_val (p + 1) 1) (seq (y :: nil)) = rw e (rep_new 0 nil (omega arith) rb (rep_nil refl refl)) in
-        let l₁ : length C₁ ≡ length C = rw e (length-cell C p b 0) in
+        let l₁ : length C₁ ≡ length C = rw e (length_cell C p b 0) in
         let s₂ : Same C₁ C₂ (p + 1) = rw f (cell_same C₁ (p + 1) a (p + 1)) in
         let r₂ : Rep C₂ (p + 1 + 1) (sequence_val (p + 1 + 1) 2) (seq (x :: y :: nil)) = rw f (rep_new (p + 1) (y :: nil) (omega arith) (rep_ext s₁ (omega arith) ra) r₁) in
         let z : p + 1 + 1 ≡ p + 2 = omega arith in
-        (rw g (rw z at r₂), same-trans (omega arith) s₁ s₂)
+        (rw g (rw z at r₂), same_trans (omega arith) s₁ s₂)
 
 -- ---- what waits is gathered: `rest` still waits, `done` stands in the new cells
 pub record Left (C₀ W : List ℕ) (top n p : ℕ) (xs : List Obj) (C : List ℕ) (left link free : ℕ) : Type 0 where
@@ -155,7 +155,7 @@ left_step {W = W} {top = top} {C = C} {free = free} n xs q link done l h e z (a_
       size = omega arith;
       still = still;
       rep = rep_new link done h (rep_ext s l (rw lq at v)) r;
-      same = same-trans l s (cell_same C free (held_at W (top + q)) link);
+      same = same_trans l s (cell_same C free (held_at W (top + q)) link);
       whole = w;
     }
 
@@ -163,7 +163,7 @@ gather_step : {C₀ W : List ℕ} {top n p : ℕ} {C : List ℕ} {left link free
 gather_step {W = W} {top = top} {n = n} {C = C} {link = link} {free = free} q z g = record {
   sum = omega arith;
   fits = g.fits;
-  len = length-cell C free (held_at W (top + q)) link ∙ g.len;
+  len = length_cell C free (held_at W (top + q)) link ∙ g.len;
   means = λ xs e h r. let l = g.means xs e h r in left_step n xs q link l.done (omega (arith, l.size)) (omega (arith, l.size)) (l.long ∙ z) (omega (arith, l.size)) l.still l.rep l.same l.whole;
 }
 

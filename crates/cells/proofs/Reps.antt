@@ -21,11 +21,11 @@ val_same v u e f = ap₂ (λ (a b : ℕ). record { tag = a; word = b }) e f
 pub same_refl : (C : List ℕ) (n : ℕ) → Same C C n
 same_refl C n = record { keep = λ i h. refl }
 
-pub same-trans : {C C₁ C₂ : List ℕ} {n n₁ : ℕ} → n ≤ n₁ → Same C C₁ n → Same C₁ C₂ n₁ → Same C C₂ n
-same-trans l a b = record { keep = λ i h. b.keep i (omega arith) ∙ a.keep i h }
+pub same_trans : {C C₁ C₂ : List ℕ} {n n₁ : ℕ} → n ≤ n₁ → Same C C₁ n → Same C₁ C₂ n₁ → Same C C₂ n
+same_trans l a b = record { keep = λ i h. b.keep i (omega arith) ∙ a.keep i h }
 
-pub same-fewer : {C C' : List ℕ} {n n₁ : ℕ} → n ≤ n₁ → Same C C' n₁ → Same C C' n
-same-fewer l a = record { keep = λ i h. a.keep i (omega arith) }
+pub same_fewer : {C C' : List ℕ} {n n₁ : ℕ} → n ≤ n₁ → Same C C' n₁ → Same C C' n
+same_fewer l a = record { keep = λ i h. a.keep i (omega arith) }
 
 pub same_val : {C C' : List ℕ} {n : ℕ} → Same C C' n → (p : ℕ) → p < n → val_at C' p ≡ val_at C p
 same_val s p h = rw (s.keep (p * 4) (omega arith), s.keep (p * 4 + 2) (omega arith), s.keep (p * 4 + 3) (omega arith))
@@ -43,8 +43,8 @@ rep_ext {C} {C'} {n} {n'} {v} s l (rep_more {p = p} {x = x} {xs = xs} t e h a b)
 
 -- ---- a cell's value and its next
 module _ (C : List ℕ) (p : ℕ) (v : Val) (next : ℕ) where
-  pub length-cell : length (cell_put C p v next) ≡ length C
-  length-cell = length_record C p v.tag next (v.word % 4294967296) (v.word / 4294967296)
+  pub length_cell : length (cell_put C p v next) ≡ length C
+  length_cell = length_record C p v.tag next (v.word % 4294967296) (v.word / 4294967296)
 
   pub cell_same : Same C (cell_put C p v next) p
   cell_same = record { keep = λ i h. record_below C p v.tag next (v.word % 4294967296) (v.word / 4294967296) i h }
@@ -83,5 +83,5 @@ rep_new {C} {n} {v} {x} next xs h a b =
 pub free_is : {C : List ℕ} {m : Meter} (p : ℕ) → Room C m → p ≡ free C m % 4294967296 → p ≡ free C m
 free_is p r e = omega arith
 
-pub free-room : (C : List ℕ) (m : Meter) → Room C m → free C m * 4 + m.cells * 4 ≤ length C
-free-room C m r = omega arith
+pub free_room : (C : List ℕ) (m : Meter) → Room C m → free C m * 4 + m.cells * 4 ≤ length C
+free_room C m r = omega arith

@@ -6,11 +6,11 @@ use native.Mathlib.Omega.{arith}
 use lib.ListN.{length}
 use Rattle.language.specs.declared.Val.{Val}
 use Rattle.cells.specs.Parts.{held_at, hold_at}
-use Rattle.cells.proofs.Reps.{length-cell, cell_val, cell_other}
+use Rattle.cells.proofs.Reps.{length_cell, cell_val, cell_other}
 
 module _ (W : List ℕ) (i : ℕ) (v : Val) where
   pub hold_length : length (hold_at W i v) ≡ length W
-  hold_length = length-cell W (i % 4096) v 0
+  hold_length = length_cell W (i % 4096) v 0
 
   pub hold_same : length W ≡ 16384 → held_at (hold_at W i v) i ≡ v
   hold_same h = cell_val W (i % 4096) v 0 (omega arith)

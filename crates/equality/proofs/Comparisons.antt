@@ -15,8 +15,8 @@ use Rattle.language.specs.declared.Meter.{Meter}
 use Rattle.language.specs.declared.Val.{Val}
 use Rattle.language.specs.declared.Charge.{Charge}
 use Rattle.language.specs.declared.Charge.TheVariants.{Granted, Spent}
-use Rattle.language.proofs.Bytes.{same-bytes_is, same-bytes-refl}
-use Rattle.language.proofs.Charging.{meter_same, step_granted, step-spent}
+use Rattle.language.proofs.Bytes.{same_bytes_is, same_bytes_refl}
+use Rattle.language.proofs.Charging.{meter_same, step_granted, step_spent}
 use Rattle.cells.specs.Cells.{Rep, rep_pos, rep_neg, rep_symbol, rep_nil, rep_more}
 use Rattle.cells.specs.Parts.{Sized, Headed, Tailed}
 use Rattle.packing.proofs.Packed.{symbols_same}
@@ -26,9 +26,9 @@ use Rattle.equality.specs.Looking.{steps_taken, compared_end, after, Fewer, Mete
 
 -- ---- a step for each pair
 -- one pair more is one step more
-ended-more : (s : Bool) (p : ℕ) (m : Meter) {k : Meter} → step_charge m ≡ Granted k → compared_end (record { same = s; pairs = suc p }) m ≡ compared_end (record { same = s; pairs = p }) k
+ended_more : (s : Bool) (p : ℕ) (m : Meter) {k : Meter} → step_charge m ≡ Granted k → compared_end (record { same = s; pairs = suc p }) m ≡ compared_end (record { same = s; pairs = p }) k
 unfolding compared_end
-ended-more s p m {k} e = go (leb p k.steps) refl
+ended_more s p m {k} e = go (leb p k.steps) refl
   where
     go : (b : Bool) → leb p k.steps ≡ b → compared_end (record { same = s; pairs = suc p }) m ≡ compared_end (record { same = s; pairs = p }) k
     go true f =
@@ -40,19 +40,19 @@ ended-more s p m {k} e = go (leb p k.steps) refl
         let h = leb-false p k.steps f in
         rw (lt-leb (suc p) m.steps (omega (arith, l.steps)), f) (ap Out (meter_same (record { steps = 0; names = m.names; cells = m.cells }) (record { steps = 0; names = k.names; cells = k.cells }) refl (omega (arith, l.names)) (omega (arith, l.cells))))
 
-ended-spent : (s : Bool) (p : ℕ) (m : Meter) {k : Meter} → step_charge m ≡ Spent k → Out k ≡ compared_end (record { same = s; pairs = suc p }) m
+ended_spent : (s : Bool) (p : ℕ) (m : Meter) {k : Meter} → step_charge m ≡ Spent k → Out k ≡ compared_end (record { same = s; pairs = suc p }) m
 unfolding compared_end
-ended-spent s p m {k} e =
-    let z = step-spent m e in
+ended_spent s p m {k} e =
+    let z = step_spent m e in
     rw (lt-leb (suc p) m.steps (omega (arith, z.0)), ← z.1) (ap Out (meter_same m (record { steps = 0; names = m.names; cells = m.cells }) z.0 refl refl))
 
-ended-none : (s : Bool) (k : Meter) → compared_end (record { same = s; pairs = 0 }) k ≡ cond s (Equal k) (Differ k)
+ended_none : (s : Bool) (k : Meter) → compared_end (record { same = s; pairs = 0 }) k ≡ cond s (Equal k) (Differ k)
 unfolding compared_end
-ended-none s k = rw (le-leb 0 k.steps (omega arith), meter_same (steps_taken 0 k) k (omega arith) refl refl)
+ended_none s k = rw (le-leb 0 k.steps (omega arith), meter_same (steps_taken 0 k) k (omega arith) refl refl)
 
-then-more : (p : ℕ) (b : Looked) (m : Meter) → p ≤ m.steps → compared_end (record { same = b.same; pairs = p + b.pairs }) m ≡ compared_end b (steps_taken p m)
+then_more : (p : ℕ) (b : Looked) (m : Meter) → p ≤ m.steps → compared_end (record { same = b.same; pairs = p + b.pairs }) m ≡ compared_end b (steps_taken p m)
 unfolding compared_end
-then-more p b m h = go (leb b.pairs (m.steps - p)) refl
+then_more p b m h = go (leb b.pairs (m.steps - p)) refl
   where
     go : (t : Bool) → leb b.pairs (m.steps - p) ≡ t → compared_end (record { same = b.same; pairs = p + b.pairs }) m ≡ compared_end b (steps_taken p m)
     go true f =
@@ -62,38 +62,38 @@ then-more p b m h = go (leb b.pairs (m.steps - p)) refl
         let l = leb-false b.pairs (m.steps - p) f in
         rw (f, lt-leb (p + b.pairs) m.steps (omega arith))
 
-onward-same : (p : ℕ) (b : Looked) (m : Meter) → compared_end (record { same = b.same; pairs = p + b.pairs }) m ≡ after (compared_end (record { same = true; pairs = p }) m) (compared_end b)
+onward_same : (p : ℕ) (b : Looked) (m : Meter) → compared_end (record { same = b.same; pairs = p + b.pairs }) m ≡ after (compared_end (record { same = true; pairs = p }) m) (compared_end b)
 unfolding compared_end
-onward-same p b m = go (leb p m.steps) refl
+onward_same p b m = go (leb p m.steps) refl
   where
     go : (t : Bool) → leb p m.steps ≡ t → compared_end (record { same = b.same; pairs = p + b.pairs }) m ≡ after (compared_end (record { same = true; pairs = p }) m) (compared_end b)
-    go true e = rw e (then-more p b m (leb-true p m.steps e))
+    go true e = rw e (then_more p b m (leb-true p m.steps e))
     go false e =
         let h = leb-false p m.steps e in
         rw (e, lt-leb (p + b.pairs) m.steps (omega arith))
 
-onward-other : (p : ℕ) (b : Looked) (m : Meter) → compared_end (record { same = false; pairs = p }) m ≡ after (compared_end (record { same = false; pairs = p }) m) (compared_end b)
+onward_other : (p : ℕ) (b : Looked) (m : Meter) → compared_end (record { same = false; pairs = p }) m ≡ after (compared_end (record { same = false; pairs = p }) m) (compared_end b)
 unfolding compared_end
-onward-other p b m = go (leb p m.steps) refl
+onward_other p b m = go (leb p m.steps) refl
   where
     go : (t : Bool) → leb p m.steps ≡ t → compared_end (record { same = false; pairs = p }) m ≡ after (compared_end (record { same = false; pairs = p }) m) (compared_end b)
     go true e = rw e
     go false e = rw e
 
 -- what is looked at in order is charged in order
-ended-onward : (a b : Looked) (m : Meter) → compared_end (onward a b) m ≡ after (compared_end a m) (compared_end b)
-ended-onward a b m = go a.same refl
+ended_onward : (a b : Looked) (m : Meter) → compared_end (onward a b) m ≡ after (compared_end a m) (compared_end b)
+ended_onward a b m = go a.same refl
   where
     go : (t : Bool) → a.same ≡ t → compared_end (onward a b) m ≡ after (compared_end a m) (compared_end b)
-    go true e = rw e (onward-same a.pairs b m)
-    go false e = rw e (onward-other a.pairs b m)
+    go true e = rw e (onward_same a.pairs b m)
+    go false e = rw e (onward_other a.pairs b m)
 
 -- ---- two atoms, or objects of different kinds
-other-bytes : (v w : List ℕ) → (v ≡ w → ⊥) → same_bytes v w ≡ false
-other-bytes v w h = go (same_bytes v w) refl
+other_bytes : (v w : List ℕ) → (v ≡ w → ⊥) → same_bytes v w ≡ false
+other_bytes v w h = go (same_bytes v w) refl
   where
     go : (t : Bool) → same_bytes v w ≡ t → t ≡ false
-    go true e = absurd (h (same-bytes_is v w e))
+    go true e = absurd (h (same_bytes_is v w e))
     go false e = refl
 
 atoms_equal : {C : List ℕ} {n : ℕ} {a b : Val} {x y : Obj} → a.tag ≡ b.tag → (a.tag ≡ 3 → ⊥) → a.word ≡ b.word → Rep C n a x → Rep C n b y → look x y ≡ record { same = true; pairs = 1 }
@@ -109,7 +109,7 @@ atoms_equal t h e (rep_neg t₁ e₁ l₁) (rep_nil t₂ e₂) = absurd (omega a
 atoms_equal t h e (rep_neg t₁ e₁ l₁) (rep_more t₂ e₂ l₂ p₂ q₂) = absurd (omega arith)
 atoms_equal t h e (rep_symbol t₁ i₁ e₁) (rep_pos t₂ e₂ l₂) = absurd (omega arith)
 atoms_equal t h e (rep_symbol t₁ i₁ e₁) (rep_neg t₂ e₂ l₂) = absurd (omega arith)
-atoms_equal t h e (rep_symbol {w = v} t₁ i₁ e₁) (rep_symbol {w = w} t₂ i₂ e₂) = rw (symbols_same v w i₁ i₂ (sym e₁ ∙ (e ∙ e₂)), same-bytes-refl w)
+atoms_equal t h e (rep_symbol {w = v} t₁ i₁ e₁) (rep_symbol {w = w} t₂ i₂ e₂) = rw (symbols_same v w i₁ i₂ (sym e₁ ∙ (e ∙ e₂)), same_bytes_refl w)
 atoms_equal t h e (rep_symbol t₁ i₁ e₁) (rep_nil t₂ e₂) = absurd (omega arith)
 atoms_equal t h e (rep_symbol t₁ i₁ e₁) (rep_more t₂ e₂ l₂ p₂ q₂) = absurd (omega arith)
 atoms_equal t h e (rep_nil t₁ e₁) r = absurd (h t₁)
@@ -128,7 +128,7 @@ atoms_differ t h e (rep_neg t₁ e₁ l₁) (rep_nil t₂ e₂) = absurd (omega 
 atoms_differ t h e (rep_neg t₁ e₁ l₁) (rep_more t₂ e₂ l₂ p₂ q₂) = absurd (omega arith)
 atoms_differ t h e (rep_symbol t₁ i₁ e₁) (rep_pos t₂ e₂ l₂) = absurd (omega arith)
 atoms_differ t h e (rep_symbol t₁ i₁ e₁) (rep_neg t₂ e₂ l₂) = absurd (omega arith)
-atoms_differ t h e (rep_symbol {w = v} t₁ i₁ e₁) (rep_symbol {w = w} t₂ i₂ e₂) = rw (other-bytes v w (λ f. e (e₁ ∙ (ap packed f ∙ sym e₂))))
+atoms_differ t h e (rep_symbol {w = v} t₁ i₁ e₁) (rep_symbol {w = w} t₂ i₂ e₂) = rw (other_bytes v w (λ f. e (e₁ ∙ (ap packed f ∙ sym e₂))))
 atoms_differ t h e (rep_symbol t₁ i₁ e₁) (rep_nil t₂ e₂) = absurd (omega arith)
 atoms_differ t h e (rep_symbol t₁ i₁ e₁) (rep_more t₂ e₂ l₂ p₂ q₂) = absurd (omega arith)
 atoms_differ t h e (rep_nil t₁ e₁) r = absurd (h t₁)
@@ -162,36 +162,36 @@ tags_differ h (rep_more t₁ e₁ l₁ p₁ q₁) (rep_nil t₂ e₂) = absurd (
 tags_differ h (rep_more t₁ e₁ l₁ p₁ q₁) (rep_more t₂ e₂ l₂ p₂ q₂) = absurd (h (t₁ ∙ sym t₂))
 
 -- ---- one pair
-charged-fewer : {m k : Meter} {ch : Charge} → ch ≡ step_charge m → ch ≡ Granted k → Fewer k m
-charged-fewer {m} x y = let l = step_granted m (sym x ∙ y) in record { steps = omega (arith, l.steps); names = omega (arith, l.names) }
+charged_fewer : {m k : Meter} {ch : Charge} → ch ≡ step_charge m → ch ≡ Granted k → Fewer k m
+charged_fewer {m} x y = let l = step_granted m (sym x ∙ y) in record { steps = omega (arith, l.steps); names = omega (arith, l.names) }
 
 -- each look asks for a step
-look-pairs : (x y : Obj) (m : Meter) {k : Meter} → step_charge m ≡ Spent k → Out k ≡ compared_end (look x y) m
-look-pairs (int i) (int j) m e = ended-spent _ 0 m e
-look-pairs (int i) (symbol t) m e = ended-spent _ 0 m e
-look-pairs (int i) (seq ys) m e = ended-spent _ 0 m e
-look-pairs (symbol s) (int j) m e = ended-spent _ 0 m e
-look-pairs (symbol s) (symbol t) m e = ended-spent _ 0 m e
-look-pairs (symbol s) (seq ys) m e = ended-spent _ 0 m e
-look-pairs (seq xs) (int j) m e = ended-spent _ 0 m e
-look-pairs (seq xs) (symbol t) m e = ended-spent _ 0 m e
-look-pairs (seq xs) (seq ys) m e = ended-spent _ (look_along xs ys).pairs m e
+look_pairs : (x y : Obj) (m : Meter) {k : Meter} → step_charge m ≡ Spent k → Out k ≡ compared_end (look x y) m
+look_pairs (int i) (int j) m e = ended_spent _ 0 m e
+look_pairs (int i) (symbol t) m e = ended_spent _ 0 m e
+look_pairs (int i) (seq ys) m e = ended_spent _ 0 m e
+look_pairs (symbol s) (int j) m e = ended_spent _ 0 m e
+look_pairs (symbol s) (symbol t) m e = ended_spent _ 0 m e
+look_pairs (symbol s) (seq ys) m e = ended_spent _ 0 m e
+look_pairs (seq xs) (int j) m e = ended_spent _ 0 m e
+look_pairs (seq xs) (symbol t) m e = ended_spent _ 0 m e
+look_pairs (seq xs) (seq ys) m e = ended_spent _ (look_along xs ys).pairs m e
 
 pub look_out : {C : List ℕ} {a b : Val} {m k : Meter} {ch : Charge} → ch ≡ step_charge m → ch ≡ Spent k → Looks C a b m (Out k)
-look_out {m = m} e f = record { falls = tt; means = λ n x y u ra rb. look-pairs x y m (sym e ∙ f) }
+look_out {m = m} e f = record { falls = tt; means = λ n x y u ra rb. look_pairs x y m (sym e ∙ f) }
 
 -- what one step decides
 decided : (m : Meter) {k : Meter} {ch : Charge} {l : Looked} (s : Bool) → ch ≡ step_charge m → ch ≡ Granted k → l ≡ record { same = s; pairs = 1 } → cond s (Equal k) (Differ k) ≡ compared_end l m
-decided m {k = k} s e f g = rw (g, ended-more s 0 m (sym e ∙ f), ended-none s k)
+decided m {k = k} s e f g = rw (g, ended_more s 0 m (sym e ∙ f), ended_none s k)
 
 pub look_equal : {C : List ℕ} {a b : Val} {m k : Meter} {ch : Charge} → ch ≡ step_charge m → ch ≡ Granted k → a.tag ≡ b.tag → (a.tag ≡ 3 → ⊥) → a.word ≡ b.word → Looks C a b m (Equal k)
-look_equal {m = m} e f t h w = record { falls = charged-fewer e f; means = λ n x y u ra rb. decided m true e f (atoms_equal t h w ra rb) }
+look_equal {m = m} e f t h w = record { falls = charged_fewer e f; means = λ n x y u ra rb. decided m true e f (atoms_equal t h w ra rb) }
 
 pub look_differ : {C : List ℕ} {a b : Val} {m k : Meter} {ch : Charge} → ch ≡ step_charge m → ch ≡ Granted k → a.tag ≡ b.tag → (a.tag ≡ 3 → ⊥) → (a.word ≡ b.word → ⊥) → Looks C a b m (Differ k)
-look_differ {m = m} e f t h w = record { falls = charged-fewer e f; means = λ n x y u ra rb. decided m false e f (atoms_differ t h w ra rb) }
+look_differ {m = m} e f t h w = record { falls = charged_fewer e f; means = λ n x y u ra rb. decided m false e f (atoms_differ t h w ra rb) }
 
 pub look_apart : {C : List ℕ} {a b : Val} {m k : Meter} {ch : Charge} → ch ≡ step_charge m → ch ≡ Granted k → (a.tag ≡ b.tag → ⊥) → Looks C a b m (Differ k)
-look_apart {m = m} e f t = record { falls = charged-fewer e f; means = λ n x y u ra rb. decided m false e f (tags_differ t ra rb) }
+look_apart {m = m} e f t = record { falls = charged_fewer e f; means = λ n x y u ra rb. decided m false e f (tags_differ t ra rb) }
 
 sinks_fall : {m k : Meter} (r : Compared) → Fewer k m → ComparedSinks r k → ComparedFalls r m
 sinks_fall (Equal l) f s = record { steps = omega (arith, f.steps, s.steps); names = s.names ∙ f.names }
@@ -206,16 +206,16 @@ along m u e t z g (rep_symbol t₁ i₁ e₁) rb = absurd (omega arith)
 along m u e t z g (rep_nil t₁ e₁) (rep_pos t₂ e₂ l₂) = absurd (omega arith)
 along m u e t z g (rep_nil t₁ e₁) (rep_neg t₂ e₂ l₂) = absurd (omega arith)
 along m u e t z g (rep_nil t₁ e₁) (rep_symbol t₂ i₂ e₂) = absurd (omega arith)
-along {n = n} m u e t z g (rep_nil t₁ e₁) (rep_nil t₂ e₂) = g.means n nil nil u (rep_nil t₁ e₁) (rep_nil t₂ e₂) ∙ sym (ended-more _ _ m e)
-along {n = n} m u e t z g (rep_nil t₁ e₁) (rep_more {x = y} {xs = ys} t₂ e₂ l₂ p₂ q₂) = g.means n nil (y :: ys) u (rep_nil t₁ e₁) (rep_more t₂ e₂ l₂ p₂ q₂) ∙ sym (ended-more _ _ m e)
+along {n = n} m u e t z g (rep_nil t₁ e₁) (rep_nil t₂ e₂) = g.means n nil nil u (rep_nil t₁ e₁) (rep_nil t₂ e₂) ∙ sym (ended_more _ _ m e)
+along {n = n} m u e t z g (rep_nil t₁ e₁) (rep_more {x = y} {xs = ys} t₂ e₂ l₂ p₂ q₂) = g.means n nil (y :: ys) u (rep_nil t₁ e₁) (rep_more t₂ e₂ l₂ p₂ q₂) ∙ sym (ended_more _ _ m e)
 along m u e t z g (rep_more t₁ e₁ l₁ p₁ q₁) (rep_pos t₂ e₂ l₂) = absurd (omega arith)
 along m u e t z g (rep_more t₁ e₁ l₁ p₁ q₁) (rep_neg t₂ e₂ l₂) = absurd (omega arith)
 along m u e t z g (rep_more t₁ e₁ l₁ p₁ q₁) (rep_symbol t₂ i₂ e₂) = absurd (omega arith)
-along {n = n} m u e t z g (rep_more {x = x} {xs = xs} t₁ e₁ l₁ p₁ q₁) (rep_nil t₂ e₂) = g.means n (x :: xs) nil u (rep_more t₁ e₁ l₁ p₁ q₁) (rep_nil t₂ e₂) ∙ sym (ended-more _ _ m e)
-along {n = n} m u e t z g (rep_more {x = x} {xs = xs} t₁ e₁ l₁ p₁ q₁) (rep_more {x = y} {xs = ys} t₂ e₂ l₂ p₂ q₂) = g.means n (x :: xs) (y :: ys) u (rep_more t₁ e₁ l₁ p₁ q₁) (rep_more t₂ e₂ l₂ p₂ q₂) ∙ sym (ended-more _ _ m e)
+along {n = n} m u e t z g (rep_more {x = x} {xs = xs} t₁ e₁ l₁ p₁ q₁) (rep_nil t₂ e₂) = g.means n (x :: xs) nil u (rep_more t₁ e₁ l₁ p₁ q₁) (rep_nil t₂ e₂) ∙ sym (ended_more _ _ m e)
+along {n = n} m u e t z g (rep_more {x = x} {xs = xs} t₁ e₁ l₁ p₁ q₁) (rep_more {x = y} {xs = ys} t₂ e₂ l₂ p₂ q₂) = g.means n (x :: xs) (y :: ys) u (rep_more t₁ e₁ l₁ p₁ q₁) (rep_more t₂ e₂ l₂ p₂ q₂) ∙ sym (ended_more _ _ m e)
 
 pub look_places : {C : List ℕ} {a b : Val} {m k : Meter} {ch : Charge} {r : Compared} → ch ≡ step_charge m → ch ≡ Granted k → a.tag ≡ b.tag → a.tag ≡ 3 → LooksAlong C a b k r → Looks C a b m r
-look_places {m = m} {r = r} e f t z g = record { falls = sinks_fall r (charged-fewer e f) g.sinks; means = λ n x y u ra rb. along m u (sym e ∙ f) t z g ra rb }
+look_places {m = m} {r = r} e f t z g = record { falls = sinks_fall r (charged_fewer e f) g.sinks; means = λ n x y u ra rb. along m u (sym e ∙ f) t z g ra rb }
 
 -- ---- the places of two sequences: `xs` and `ys` are still to be looked at
 pub record PlaceNow (C : List ℕ) (n : ℕ) (xs₀ ys₀ : Objs) (m : Meter) (p q : Val) (k : Meter) : Type 0 where
@@ -252,7 +252,7 @@ first_places {C} {n} {k = k} (x :: xs) (y :: ys) u sp sq hi hj h₁ h₂ c rp rq
       ys' = ys;
       rp = λ p₁ t. t.means n x xs u rp;
       rq = λ q₁ t. t.means n y ys u rq;
-      first = ended-onward (look x y) (look_along xs ys) k ∙ ap (λ (r : Compared). after r (compared_end (look_along xs ys))) (sym (c.means n x y u (h₁.means n x xs u rp) (h₂.means n y ys u rq)));
+      first = ended_onward (look x y) (look_along xs ys) k ∙ ap (λ (r : Compared). after r (compared_end (look_along xs ys))) (sym (c.means n x y u (h₁.means n x xs u rp) (h₂.means n y ys u rq)));
     }
 
 next_places : {C : List ℕ} {n i j : ℕ} {xs₀ ys₀ : Objs} {p q p₁ q₁ v w : Val} {m k k₁ : Meter} → n < 4294967296 → Sized p i → Sized q j → (i ≡ 0 → ⊥) → (j ≡ 0 → ⊥) → Headed C p v → Headed C q w → Looks C v w k (Equal k₁) → Tailed C p p₁ → Tailed C q q₁ → PlaceNow C n xs₀ ys₀ m p q k → PlaceNow C n xs₀ ys₀ m p₁ q₁ k₁
@@ -281,16 +281,16 @@ place_out {k₁ = k₁} g sp hi sq hj h₁ h₂ c e = record { sinks = tt; means
 -- either ends
 longer_first : {C : List ℕ} {n i j : ℕ} {p q : Val} (xs ys : Objs) (k : Meter) → n < 4294967296 → Sized p i → Sized q j → (i ≡ 0 → ⊥) → j ≡ 0 → Rep C n p (seq xs) → Rep C n q (seq ys) → Differ k ≡ compared_end (look_along xs ys) k
 longer_first {C} {n} nil ys k u sp sq hi hj rp rq = absurd (hi (sp.means C n nil u rp))
-longer_first {C} {n} (x :: xs) nil k u sp sq hi hj rp rq = sym (ended-none false k)
+longer_first {C} {n} (x :: xs) nil k u sp sq hi hj rp rq = sym (ended_none false k)
 longer_first {C} {n} (x :: xs) (y :: ys) k u sp sq hi hj rp rq = absurd (omega (arith, sq.means C n (y :: ys) u rq))
 
 longer_second : {C : List ℕ} {n i j : ℕ} {p q : Val} (xs ys : Objs) (k : Meter) → n < 4294967296 → Sized p i → Sized q j → i ≡ 0 → (j ≡ 0 → ⊥) → Rep C n p (seq xs) → Rep C n q (seq ys) → Differ k ≡ compared_end (look_along xs ys) k
 longer_second {C} {n} nil nil k u sp sq hi hj rp rq = absurd (hj (sq.means C n nil u rq))
-longer_second {C} {n} nil (y :: ys) k u sp sq hi hj rp rq = sym (ended-none false k)
+longer_second {C} {n} nil (y :: ys) k u sp sq hi hj rp rq = sym (ended_none false k)
 longer_second {C} {n} (x :: xs) ys k u sp sq hi hj rp rq = absurd (omega (arith, sp.means C n (x :: xs) u rp))
 
 both_end : {C : List ℕ} {n i j : ℕ} {p q : Val} (xs ys : Objs) (k : Meter) → n < 4294967296 → Sized p i → Sized q j → i ≡ 0 → j ≡ 0 → Rep C n p (seq xs) → Rep C n q (seq ys) → Equal k ≡ compared_end (look_along xs ys) k
-both_end {C} {n} nil nil k u sp sq hi hj rp rq = sym (ended-none true k)
+both_end {C} {n} nil nil k u sp sq hi hj rp rq = sym (ended_none true k)
 both_end {C} {n} nil (y :: ys) k u sp sq hi hj rp rq = absurd (omega (arith, sq.means C n (y :: ys) u rq))
 both_end {C} {n} (x :: xs) ys k u sp sq hi hj rp rq = absurd (omega (arith, sp.means C n (x :: xs) u rp))
 
@@ -304,8 +304,8 @@ pub place_end : {C : List ℕ} {i j : ℕ} {a b p q : Val} {m k : Meter} → Pla
 place_end {k = k} g sp hi sq hj = record { sinks = g.sinks; means = λ n xs₀ ys₀ u ra rb. let s = g.means n xs₀ ys₀ u ra rb in both_end s.xs s.ys k u sp sq hi hj s.rp s.rq ∙ sym s.whole }
 
 -- ---- the measure
-pub below-look : (m k : Meter) (t : ℕ) {ch : Charge} → ch ≡ step_charge m → ch ≡ Granted k → 2 * m.steps ≡ t → 2 * k.steps + 1 < t
-below-look m k t a b e = omega (arith, (step_granted m (sym a ∙ b)).steps)
+pub below_look : (m k : Meter) (t : ℕ) {ch : Charge} → ch ≡ step_charge m → ch ≡ Granted k → 2 * m.steps ≡ t → 2 * k.steps + 1 < t
+below_look m k t a b e = omega (arith, (step_granted m (sym a ∙ b)).steps)
 
-pub look-fell : {C : List ℕ} {a b : Val} {m k : Meter} {r : Compared} → Looks C a b m r → r ≡ Equal k → k.steps < m.steps
-look-fell c e = (looks_as e c).falls.steps
+pub look_fell : {C : List ℕ} {a b : Val} {m k : Meter} {r : Compared} → Looks C a b m r → r ≡ Equal k → k.steps < m.steps
+look_fell c e = (looks_as e c).falls.steps

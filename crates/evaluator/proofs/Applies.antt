@@ -13,24 +13,24 @@ use Rattle.language.specs.declared.Charge.TheVariants.{Granted, Spent}
 use Rattle.language.specs.declared.Val.{Val}
 use Rattle.primitives.specs.declared.Ended.{Ended}
 use Rattle.primitives.specs.declared.Ended.TheVariants.{Done, Stop}
-use Rattle.evaluator.specs.Ring.{fell, ran_out, Ends, ends-done, ends-stop}
+use Rattle.evaluator.specs.Ring.{fell, ran_out, Ends, ends_done, ends_stop}
 use Rattle.language.specs.Bytes.{bytes}
 use Rattle.language.specs.Forms.{main_form}
 use Rattle.language.specs.Accepted.{IsName}
 use Rattle.language.specs.Meanings.{meaning}
 use Rattle.language.specs.Evaluation.{Out, value, spent, charged, inside, no_step}
 use Rattle.language.specs.Charging.{step_charge}
-use Rattle.language.proofs.Charging.{Left, step_asked, step_granted, step-spent, on_charge}
+use Rattle.language.proofs.Charging.{Left, step_asked, step_granted, step_spent, on_charge}
 use Rattle.tables.specs.Tables.{field}
 use Rattle.cells.specs.Cells.{Rep, free}
 use Rattle.cells.proofs.Reps.{same_refl, rep_ext}
-use Rattle.primitives.specs.Ends.{Gives, gives-value, gives-bottom, gives-spent, Leaf, Sinks}
+use Rattle.primitives.specs.Ends.{Gives, gives_value, gives_bottom, gives_spent, Leaf, Sinks}
 use Rattle.linker.specs.Linked.{FormIs, is_op, is_select, is_select_right, is_name, is_chain_lem, is_construct, is_insert, is_all, is_condition, is_while, is_constant, is_bu, form_at, linked_kind_at, constant_at}
 use Rattle.evaluator.specs.Applying.{Setting, by, At, Given, Alone, a_word, a_select, a_select_right, a_constant, no_kind, Applied, Falls, Chained, Constructed, Mapped, Inserted, Bound, Chosen, Repeated, NameApplied, FormsCopied, Ran}
 use Rattle.primitives.specs.Leaves.{Coded}
 use Rattle.evaluator.proofs.Copies.{def_copied}
 use Rattle.primitives.proofs.Ending.{agree_self}
-use Rattle.evaluator.proofs.Steps.{since_step, ends_since, ends_eq, gives_eq, kept_refl, given-charged}
+use Rattle.evaluator.proofs.Steps.{since_step, ends_since, ends_eq, gives_eq, kept_refl, given_charged}
 
 -- the number is no kind of a form with parts, and no name's
 pub record Bare (κ : ℕ) : Type 0 where
@@ -58,15 +58,15 @@ pub data Dispatched (F C W : List ℕ) (top i : ℕ) (v : Val) (m : Meter) : ℕ
 
 -- a word ends without the ring
 leaf_ends : {C C₁ : List ℕ} (W : List ℕ) (top : ℕ) {m : Meter} {e : Out Obj} (r : Ended) → length W ≡ 16384 → Gives C m C₁ e r → Ends C W top m e C₁ W r
-leaf_ends W top {m} (Done v k) w (gives-value {x = x} g) = ends-done {v = v} {m' = k} (record { obj = x; is = refl; made = g; ring = w; kept = kept_refl W top m.cells k.cells })
-leaf_ends W top (Stop n k) w (gives-bottom z a) = ends-stop (fell refl z a)
-leaf_ends W top (Stop n k) w (gives-spent z a) = ends-stop (ran_out refl z a)
+leaf_ends W top {m} (Done v k) w (gives_value {x = x} g) = ends_done {v = v} {m' = k} (record { obj = x; is = refl; made = g; ring = w; kept = kept_refl W top m.cells k.cells })
+leaf_ends W top (Stop n k) w (gives_bottom z a) = ends_stop (fell refl z a)
+leaf_ends W top (Stop n k) w (gives_spent z a) = ends_stop (ran_out refl z a)
 
 leaf : {F C W C₁ : List ℕ} {S : Setting} {k : ℕ} (top : ℕ) {v : Val} {m : Meter} {x : Obj} (r : Ended) {w : _} → Leaf C v m w r C₁ → Given F S k C W m v x → Ends C W top m (charged (meaning one w x) m) C₁ W r
 leaf {W = W} top {x = x} r l g = leaf_ends W top r g.ring (l.means x g.room g.arg)
 
-constant-here : {F C W : List ℕ} {S : Setting} {k : ℕ} (top : ℕ) {v u : Val} {m : Meter} {x y : Obj} → Given F S k C W m v x → Rep S.cells S.few u y → Ends C W top m (value y m) C W (Done u m)
-constant-here {C = C} {W} top {u = u} {m} {y = y} g p = ends-done {v = u} {m' = m} (record {
+constant_here : {F C W : List ℕ} {S : Setting} {k : ℕ} (top : ℕ) {v u : Val} {m : Meter} {x y : Obj} → Given F S k C W m v x → Rep S.cells S.few u y → Ends C W top m (value y m) C W (Done u m)
+constant_here {C = C} {W} top {u = u} {m} {y = y} g p = ends_done {v = u} {m' = m} (record {
   obj = y;
   is = refl;
   made = record { rep = rep_ext g.still g.low p; same = same_refl C (free C m); room = g.room; fewer = omega arith; long = refl };
@@ -79,7 +79,7 @@ alone : {F C W C₁ : List ℕ} {κ top i : ℕ} {S : Setting} {k : ℕ} {v : Va
 alone {top = top} r h (is_op {o = o} p) (a_word l) g = leaf top r (l.means o (sym p)) g
 alone {C = C} {top = top} {v = v} {m = m} r h (is_select p) (a_select l) g = leaf top r (subst (λ (j : ℕ). Leaf C v m (select j) r C) p l) g
 alone {C = C} {top = top} {v = v} {m = m} r h (is_select_right p) (a_select_right l) g = leaf top r (subst (λ (j : ℕ). Leaf C v m (select_right j) r C) p l) g
-alone {top = top} r h (is_constant p) a_constant g = constant-here top g p
+alone {top = top} r h (is_constant p) a_constant g = constant_here top g p
 alone r h (is_op p) (no_kind n1 n2 n3 n12) g = absurd (n1 refl)
 alone r h (is_select p) (no_kind n1 n2 n3 n12) g = absurd (n2 refl)
 alone r h (is_select_right p) (no_kind n1 n2 n3 n12) g = absurd (n3 refl)
@@ -94,15 +94,15 @@ alone r h (is_while a a₁) z g = absurd (h.not10 refl)
 alone r h (is_bu p p₁) z g = absurd (h.not16 refl)
 
 -- the kind of words is bare
-bare-word : Bare 1
-bare-word = record { not4 = λ e. absurd (omega arith); not5 = λ e. absurd (omega arith); not6 = λ e. absurd (omega arith); not7 = λ e. absurd (omega arith); not8 = λ e. absurd (omega arith); not9 = λ e. absurd (omega arith); not10 = λ e. absurd (omega arith); not16 = λ e. absurd (omega arith) }
+bare_word : Bare 1
+bare_word = record { not4 = λ e. absurd (omega arith); not5 = λ e. absurd (omega arith); not6 = λ e. absurd (omega arith); not7 = λ e. absurd (omega arith); not8 = λ e. absurd (omega arith); not9 = λ e. absurd (omega arith); not10 = λ e. absurd (omega arith); not16 = λ e. absurd (omega arith) }
 
 -- the first part's record
 behind : (i h : ℕ) → i < 2048 → h ≡ (i + 1) % 4294967296 → i + 1 ≡ h
 behind i h l e = omega arith
 
 dispatch : {F C W C₁ W₁ : List ℕ} {κ top i : ℕ} {v : Val} {m : Meter} {f : Form} {x : Obj} {r : Ended} (S : Setting) (k : ℕ) → i < 2048 → FormIs F S.cells S.few S.root κ i f → Dispatched F C W top i v m κ r C₁ W₁ → Given F S k C W m v x → Ends C W top m (inside (by S k) k one S.prog f x m) C₁ W₁ r
-dispatch {r = r} S k b p (on_word a) g = alone r bare-word p a g
+dispatch {r = r} S k b p (on_word a) g = alone r bare_word p a g
 dispatch {r = r} S k b p (on_leaf h a) g = alone r h p a g
 dispatch {x = x} S k b (is_name {w = w} n p) (on_name q c) g = c.means S k w x n (q ∙ p) g
 dispatch {x = x} S k b (is_chain_lem {fs = fs} p) (on_chain q c) g = c.means S k fs x (rw q p) g
@@ -132,28 +132,28 @@ dispatch_sinks r (on_condition q c) = c.sinks
 dispatch_sinks r (on_while q c) = c.sinks
 dispatch_sinks r (on_bu q z c) = c.sinks
 
-falls-after : (r : Ended) (m m₁ : Meter) → Sinks r m₁ → Left m m₁ 1 0 0 → Falls r m
-falls-after (Done v k) m m₁ s c = (omega (arith, s.0, c.steps), omega (arith, s.1, c.names))
-falls-after (Stop v k) m m₁ s e = tt
+falls_after : (r : Ended) (m m₁ : Meter) → Sinks r m₁ → Left m m₁ 1 0 0 → Falls r m
+falls_after (Done v k) m m₁ s c = (omega (arith, s.0, c.steps), omega (arith, s.1, c.names))
+falls_after (Stop v k) m m₁ s e = tt
 
-apply-means : {F C W C₁ W₁ : List ℕ} {κ top i : ℕ} {v : Val} {m m₁ : Meter} {f : Form} {x : Obj} {r : Ended} (S : Setting) (k : ℕ) → linked_kind_at F i ≡ κ → step_charge m ≡ Granted m₁ → Left m m₁ 1 0 0 → Dispatched F C W top i v m₁ κ r C₁ W₁ → At F S i f → Given F S k C W m v x → Ends C W top m (by S k f x m) C₁ W₁ r
-apply-means S zero q e c d at g = absurd (omega (arith, c.steps, g.fuel))
-apply-means {F} {C} {W} {top = top} {i} {m = m} {f = f} {x} S (suc k) q e c d (form_at l q₁ fi) g =
+apply_means : {F C W C₁ W₁ : List ℕ} {κ top i : ℕ} {v : Val} {m m₁ : Meter} {f : Form} {x : Obj} {r : Ended} (S : Setting) (k : ℕ) → linked_kind_at F i ≡ κ → step_charge m ≡ Granted m₁ → Left m m₁ 1 0 0 → Dispatched F C W top i v m₁ κ r C₁ W₁ → At F S i f → Given F S k C W m v x → Ends C W top m (by S k f x m) C₁ W₁ r
+apply_means S zero q e c d at g = absurd (omega (arith, c.steps, g.fuel))
+apply_means {F} {C} {W} {top = top} {i} {m = m} {f = f} {x} S (suc k) q e c d (form_at l q₁ fi) g =
     ends_eq (step_asked m (λ m₁. inside (by S k) k one S.prog f x m₁) ∙ ap (λ u. on_charge u no_step (λ m₁. inside (by S k) k one S.prog f x m₁)) e)
-    (ends_since (since_step C W top c) (dispatch S k l (subst (λ (n : ℕ). FormIs F S.cells S.few S.root n i f) (sym q₁ ∙ q) fi) d (given-charged 1 0 k c (omega arith) g)))
+    (ends_since (since_step C W top c) (dispatch S k l (subst (λ (n : ℕ). FormIs F S.cells S.few S.root n i f) (sym q₁ ∙ q) fi) d (given_charged 1 0 k c (omega arith) g)))
 
 pub applied : {F C W C₁ W₁ : List ℕ} {κ κ₁ top i : ℕ} {v : Val} {m m₁ : Meter} {ch : Charge} {r : Ended} → ch ≡ step_charge m → ch ≡ Granted m₁ → κ₁ ≡ linked_kind_at F i → κ₁ ≡ κ → Dispatched F C W top i v m₁ κ r C₁ W₁ → Applied F C W top i v m r C₁ W₁
 applied {m = m} {m₁} {r = r} a b q z d =
     let e = sym a ∙ b in
     let c = step_granted m e in
-    record { falls = falls-after r m m₁ (dispatch_sinks r d) c; means = λ S k f x at g. apply-means S k (sym q ∙ z) e c d at g }
+    record { falls = falls_after r m m₁ (dispatch_sinks r d) c; means = λ S k f x at g. apply_means S k (sym q ∙ z) e c d at g }
 
-spent-means : (S : Setting) (f : Form) (x : Obj) (m : Meter) {m₁ : Meter} (k : ℕ) → step_charge m ≡ Spent m₁ → by S k f x m ≡ spent no_step m₁
-spent-means S f x m zero e = ap (spent no_step) (step-spent m e).1
-spent-means S f x m (suc k) e = step_asked m (λ m₁. inside (by S k) k one S.prog f x m₁) ∙ ap (λ u. on_charge u no_step (λ m₁. inside (by S k) k one S.prog f x m₁)) e
+spent_means : (S : Setting) (f : Form) (x : Obj) (m : Meter) {m₁ : Meter} (k : ℕ) → step_charge m ≡ Spent m₁ → by S k f x m ≡ spent no_step m₁
+spent_means S f x m zero e = ap (spent no_step) (step_spent m e).1
+spent_means S f x m (suc k) e = step_asked m (λ m₁. inside (by S k) k one S.prog f x m₁) ∙ ap (λ u. on_charge u no_step (λ m₁. inside (by S k) k one S.prog f x m₁)) e
 
-pub apply-spent : {F C W : List ℕ} {top i : ℕ} {v : Val} {m m₁ : Meter} {ch : Charge} → ch ≡ step_charge m → ch ≡ Spent m₁ → Applied F C W top i v m (Stop 22 m₁) C W
-apply-spent {m = m} {m₁} a b = record { falls = tt; means = λ S k f x at g. ends-stop (ran_out (spent-means S f x m k (sym a ∙ b)) refl (agree_self m₁)) }
+pub apply_spent : {F C W : List ℕ} {top i : ℕ} {v : Val} {m m₁ : Meter} {ch : Charge} → ch ≡ step_charge m → ch ≡ Spent m₁ → Applied F C W top i v m (Stop 22 m₁) C W
+apply_spent {m = m} {m₁} a b = record { falls = tt; means = λ S k f x at g. ends_stop (ran_out (spent_means S f x m k (sym a ∙ b)) refl (agree_self m₁)) }
 
 pub apply_leaf : {F C W C₁ : List ℕ} {κ top i : ℕ} {v : Val} {m m₁ : Meter} {ch : Charge} {r : Ended} → ch ≡ step_charge m → ch ≡ Granted m₁ → κ ≡ linked_kind_at F i → (κ ≡ 4 → ⊥) → (κ ≡ 5 → ⊥) → (κ ≡ 6 → ⊥) → (κ ≡ 7 → ⊥) → (κ ≡ 8 → ⊥) → (κ ≡ 9 → ⊥) → (κ ≡ 10 → ⊥) → (κ ≡ 16 → ⊥) → Alone F C i v m₁ κ r C₁ → Applied F C W top i v m r C₁ W
 apply_leaf a b q n4 n5 n6 n7 n8 n9 n10 n16 l = applied a b q refl (on_leaf (record { not4 = n4; not5 = n5; not6 = n6; not7 = n7; not8 = n8; not9 = n9; not10 = n10; not16 = n16 }) l)
@@ -175,26 +175,26 @@ alone_constant {F} {C} {i} {v = v} {u} {m} e q = subst (λ (n : ℕ). Alone F C 
 main_name : IsName (bytes "main")
 main_name = (refl, refl, omega arith, refl)
 
-ends-gives : {C W C₁ W₁ : List ℕ} {top : ℕ} {m : Meter} {e : Out Obj} {r : Ended} → Ends C W top m e C₁ W₁ r → Gives C m C₁ e r
-ends-gives (ends-done f) = gives_eq f.is (gives-value f.made)
-ends-gives (ends-stop (fell e z a)) = gives_eq e (gives-bottom z a)
-ends-gives (ends-stop (ran_out e z a)) = gives_eq e (gives-spent z a)
+ends_gives : {C W C₁ W₁ : List ℕ} {top : ℕ} {m : Meter} {e : Out Obj} {r : Ended} → Ends C W top m e C₁ W₁ r → Gives C m C₁ e r
+ends_gives (ends_done f) = gives_eq f.is (gives_value f.made)
+ends_gives (ends_stop (fell e z a)) = gives_eq e (gives_bottom z a)
+ends_gives (ends_stop (ran_out e z a)) = gives_eq e (gives_spent z a)
 
 pub ran_spent : {F C : List ℕ} {d : ℕ} {v : Val} {m m₁ : Meter} {ch : Charge} → ch ≡ step_charge m → ch ≡ Spent m₁ → Ran F C d v m (Stop 22 m₁) C
 ran_spent {C = C} {m = m} {m₁} a b = record {
-  means = λ P root x ds q rm p. gives_eq (spent-means (record { prog = P; root = root; cells = C; few = free C m }) main_form x m m.steps (sym a ∙ b)) (gives-spent refl (agree_self m₁));
+  means = λ P root x ds q rm p. gives_eq (spent_means (record { prog = P; root = root; cells = C; few = free C m }) main_form x m m.steps (sym a ∙ b)) (gives_spent refl (agree_self m₁));
 }
 
 run_means : {F C W C₁ W₁ : List ℕ} {d : ℕ} {v : Val} {m m₁ : Meter} {x : Obj} {r : Ended} (S : Setting) (k : ℕ) → m.steps ≤ k → step_charge m ≡ Granted m₁ → Left m m₁ 1 0 0 → NameApplied F C W 0 d v m₁ r C₁ W₁ → d ≡ S.root (bytes "main") → Given F S k C W m v x → Ends C W 0 m (by S k main_form x m) C₁ W₁ r
 run_means S zero l e c n q g = absurd (omega (arith, c.steps))
 run_means {C = C} {W} {m = m} {x = x} S (suc k) l e c n q g =
     ends_eq (step_asked m (λ m₁. inside (by S k) k one S.prog main_form x m₁) ∙ ap (λ u. on_charge u no_step (λ m₁. inside (by S k) k one S.prog main_form x m₁)) e)
-    (ends_since (since_step C W 0 c) (n.means S k (bytes "main") x main_name q (given-charged 1 0 k c (omega arith) g)))
+    (ends_since (since_step C W 0 c) (n.means S k (bytes "main") x main_name q (given_charged 1 0 k c (omega arith) g)))
 
 pub ran : {F T C W C₁ W₁ : List ℕ} {d : ℕ} {v : Val} {m m₁ : Meter} {ch : Charge} {r : Ended} → ch ≡ step_charge m → ch ≡ Granted m₁ → FormsCopied F T → length W ≡ 16384 → NameApplied T C W 0 d v m₁ r C₁ W₁ → Ran F C d v m r C₁
 ran {C = C} {m = m} a b t l n =
     let e = sym a ∙ b in
     record {
-      means = λ P root x ds q rm p. ends-gives (run_means (record { prog = P; root = root; cells = C; few = free C m }) m.steps (omega arith) e (step_granted m e) n q
+      means = λ P root x ds q rm p. ends_gives (run_means (record { prog = P; root = root; cells = C; few = free C m }) m.steps (omega arith) e (step_granted m e) n q
           (record { defs = λ w i. def_copied t (ds w i); still = same_refl C (free C m); low = omega arith; room = rm; ring = l; fuel = omega arith; arg = p }));
     }

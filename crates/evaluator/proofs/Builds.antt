@@ -10,7 +10,7 @@ use Rattle.language.specs.declared.Meter.{Meter}
 use Rattle.language.specs.declared.Val.{Val}
 use Rattle.primitives.specs.declared.Ended.{Ended}
 use Rattle.primitives.specs.declared.Ended.TheVariants.{Done, Stop}
-use Rattle.evaluator.specs.Ring.{Stopped, fell, Ends, ends-stop}
+use Rattle.evaluator.specs.Ring.{Stopped, fell, Ends, ends_stop}
 use Rattle.language.specs.Evaluation.{Out, value, bottom, bind, construct_by, each_by, gathered, apply_all_on}
 use Rattle.cells.specs.Cells.{Rep, rep_pos, rep_neg, rep_symbol, rep_nil, rep_more, free}
 use Rattle.cells.specs.Parts.{hold_at, Sized, Headed, Tailed}
@@ -19,7 +19,7 @@ use Rattle.cells.proofs.Ring.{hold_length}
 use Rattle.linker.specs.Linked.{no_part, a_part, link_at}
 use Rattle.evaluator.specs.Applying.{Setting, by, At, AllAt, Given, Applied, Constructed, Mapped, Slotted, Collected}
 use Rattle.primitives.proofs.Ending.{agree_self}
-use Rattle.evaluator.proofs.Steps.{since_refl, free_up, gave, gave_stop, ends_eq, given_next, given-again, given-held, few_cells, applied_as, sinks_le}
+use Rattle.evaluator.proofs.Steps.{since_refl, free_up, gave, gave_stop, ends_eq, given_next, given_again, given_held, few_cells, applied_as, sinks_le}
 use Rattle.evaluator.proofs.Waits.{Waiting, wait_start, wait_next, wait_stop, wait_closed}
 
 -- ---- a value that waits
@@ -44,7 +44,7 @@ pub record Building (F Cs Ws : List ℕ) (top h many : ℕ) (v : Val) (m : Meter
   pub most : q ≤ many
   pub fits : j < 4294967296
   pub sinks : (n.steps ≤ m.steps) × (n.names ≡ m.names)
-  pub longC : length C ≡ length Cs
+  pub long_C : length C ≡ length Cs
   pub means : (S : Setting) (k : ℕ) (fs : Forms) (x : Obj) → count fs ≡ many → AllAt F S h fs → Given F S k Cs Ws m v x → BuildNow F S k Cs Ws top many v m x (construct_by (by S k) fs x m) C W j q n
 
 pub build_start : {F C W : List ℕ} {top h many : ℕ} {v : Val} {m : Meter} → h < 4294967296 → Building F C W top h many v m C W h 0 m
@@ -52,7 +52,7 @@ build_start {F} {C} {W} {top} {m = m} fj = record {
   most = omega arith;
   fits = fj;
   sinks = (omega arith, refl);
-  longC = refl;
+  long_C = refl;
   means = λ S k fs x ct p g. record { fs = fs; left = omega arith; at = p; given = g; waits = wait_start C W top m (construct_by (by S k) fs x) };
 }
 
@@ -60,7 +60,7 @@ step_build : {F Cs Ws C W C₁ W₁ : List ℕ} {top many j : ℕ} {v y : Val} {
 step_build S k q l ct no_part g b a = absurd (omega arith)
 step_build {W₁ = W₁} {top = top} {y = y} {x = x} S k q l ct (a_part {f = f} {fs = fs} fa ps) g b a =
     let u = gave (a.means S k f x fa g) in
-    record { fs = fs; left = omega arith; at = ps; given = given-held (given-again g a.falls.0 u) (hold_length W₁ ((top + q) % 4096) y ∙ u.ring); waits = wait_next q (by S k f x) (construct_by (by S k) fs x) (few_cells g.room).0 b u }
+    record { fs = fs; left = omega arith; at = ps; given = given_held (given_again g a.falls.0 u) (hold_length W₁ ((top + q) % 4096) y ∙ u.ring); waits = wait_next q (by S k f x) (construct_by (by S k) fs x) (few_cells g.room).0 b u }
 
 build_next : {F Cs Ws C W C₁ W₁ W₂ : List ℕ} {top h many j j₁ q : ℕ} {v y : Val} {m n n₁ : Meter} → q < many → Building F Cs Ws top h many v m C W j q n → Applied F C W ((top + q) % 4096) j v n (Done y n₁) C₁ W₁ → W₂ ≡ hold_at W₁ ((top + q) % 4096) y → j₁ ≡ link_at F j → j₁ < 4294967296 → length C₁ ≡ length C → Building F Cs Ws top h many v m C₁ W₂ j₁ (q + 1) n₁
 build_next {q = q} l b a w z fj lc =
@@ -68,7 +68,7 @@ build_next {q = q} l b a w z fj lc =
       most = omega arith;
       fits = fj;
       sinks = (omega (arith, a.falls.0, b.sinks.0), a.falls.1 ∙ b.sinks.1);
-      longC = lc ∙ b.longC;
+      long_C = lc ∙ b.long_C;
       means = λ S k fs x ct p g. let h = b.means S k fs x ct p g in rw z (step_build S k q l h.left h.at h.given h.waits a);
     })
 
@@ -84,7 +84,7 @@ build_turn {F} {C = C} {W} {C₁} {W₂} {j = j} {v = v} {y = y} {n = n} {n₁} 
 pub build_halt : {F Cs Ws C W C₁ W₂ : List ℕ} {top h many j q t a : ℕ} {v : Val} {m n n₁ : Meter} {r : Ended} → q < many → Building F Cs Ws top h many v m C W j q n → Slotted F C W t j v n r C₁ W₂ → r ≡ Stop a n₁ → Constructed F Cs Ws top h many v m (Stop a n₁) C₁ W₂
 build_halt {q = q} l b s e =
     let a = slotted_as e s in
-    record { sinks = tt; means = λ S k fs x ct p g. let h = b.means S k fs x ct p g in ends-stop (stop_build S k q l h.left h.at h.given h.waits a.app) }
+    record { sinks = tt; means = λ S k fs x ct p g. let h = b.means S k fs x ct p g in ends_stop (stop_build S k q l h.left h.at h.given h.waits a.app) }
 
 none_left : (fs : Forms) (S : Setting) (k : ℕ) (x : Obj) (n : Meter) → count fs ≡ 0 → construct_by (by S k) fs x n ≡ value nil n
 none_left stop S k x n e = refl
@@ -111,7 +111,7 @@ pub record MapNow (F : List ℕ) (S : Setting) (k : ℕ) (Cs Ws : List ℕ) (top
 pub record Mapping (F Cs Ws : List ℕ) (top g many : ℕ) (v : Val) (m : Meter) (C W : List ℕ) (s : Val) (q : ℕ) (n : Meter) : Type 0 where
   pub most : q ≤ many
   pub sinks : (n.steps ≤ m.steps) × (n.names ≡ m.names)
-  pub longC : length C ≡ length Cs
+  pub long_C : length C ≡ length Cs
   pub means : (S : Setting) (k : ℕ) (f : Form) (xs : Objs) → At F S g f → Given F S k Cs Ws m v (seq xs) → MapNow F S k Cs Ws top many v m f (seq xs) (each_by (by S k) f xs m) C W s q n
 
 -- a value whose tag is 3 stands for a sequence, any other for an atom
@@ -138,14 +138,14 @@ atom_all S k f m h (rep_symbol e i w) = refl
 atom_all S k f m h (rep_nil e w) = absurd (h e)
 atom_all S k f m h (rep_more e w l a b) = absurd (h e)
 
-pub map-atom : {F C W : List ℕ} {top g : ℕ} {v : Val} {m : Meter} → (v.tag ≡ 3 → ⊥) → Mapped F C W top g v m (Stop 21 m) C W
-map-atom {m = m} h = record { sinks = tt; means = λ S k f x fa g. ends-stop (fell (atom_all S k f m h g.arg) refl (agree_self m)) }
+pub map_atom : {F C W : List ℕ} {top g : ℕ} {v : Val} {m : Meter} → (v.tag ≡ 3 → ⊥) → Mapped F C W top g v m (Stop 21 m) C W
+map_atom {m = m} h = record { sinks = tt; means = λ S k f x fa g. ends_stop (fell (atom_all S k f m h g.arg) refl (agree_self m)) }
 
 pub map_start : {F C W : List ℕ} {top g many : ℕ} {v : Val} {m : Meter} → Sized v many → Mapping F C W top g many v m C W v 0 m
 map_start {C = C} {W} {top} {m = m} sz = record {
   most = omega arith;
   sinks = (omega arith, refl);
-  longC = refl;
+  long_C = refl;
   means = λ S k f xs fa g. record { xs = xs; left = omega (arith, sz.means C (free C m) xs (few_cells g.room).1 g.arg); rep = g.arg; given = g; waits = wait_start C W top m (each_by (by S k) f xs) };
 }
 
@@ -159,7 +159,7 @@ step_map {C = C} {W} {C₁} {W₁} {top} {y = y} {n = n} {n₁} {f} S k q (z :: 
       xs = zs;
       left = omega arith;
       rep = tl.means (free C₁ n₁) z zs (few_cells p.made.room).1 (rep_ext p.made.same (free_up C C₁ n n₁ p.made.fewer p.made.long) r);
-      given = given-held (given-again g a.falls.0 p) (hold_length W₁ ((top + q) % 4096) y ∙ p.ring);
+      given = given_held (given_again g a.falls.0 p) (hold_length W₁ ((top + q) % 4096) y ∙ p.ring);
       waits = wait_next q (by S k f z) (each_by (by S k) f zs) (few_cells g.room).0 b p;
     }
 
@@ -168,7 +168,7 @@ map_next {q = q} l b hd a w tl lc =
     rw w (record {
       most = omega arith;
       sinks = (omega (arith, a.falls.0, b.sinks.0), a.falls.1 ∙ b.sinks.1);
-      longC = lc ∙ b.longC;
+      long_C = lc ∙ b.long_C;
       means = λ S k f xs fa g. let h = b.means S k f xs fa g in step_map S k q h.xs l h.left fa h.rep h.given h.waits hd tl a;
     })
 
@@ -188,15 +188,15 @@ map_halt {q = q} tg l b hd s e =
     let a = slotted_as e s in
     record {
       sinks = tt;
-      means = λ S k f x fa g. on_sequence (apply_all_on (by S k) f) tg g (λ xs g₁. let h = b.means S k f xs fa g₁ in ends-stop (stop-map S k q h.xs l h.left fa h.rep h.given h.waits hd a.app));
+      means = λ S k f x fa g. on_sequence (apply_all_on (by S k) f) tg g (λ xs g₁. let h = b.means S k f xs fa g₁ in ends_stop (stop-map S k q h.xs l h.left fa h.rep h.given h.waits hd a.app));
     }
 
 no_place : (xs : Objs) (S : Setting) (k : ℕ) (f : Form) (n : Meter) → length_of xs ≡ 0 → each_by (by S k) f xs n ≡ value nil n
 no_place nil S k f n e = refl
 no_place (x :: xs) S k f n e = absurd (omega arith)
 
-pub map-done : {F Cs Ws C W C₁ : List ℕ} {top g many q : ℕ} {v s : Val} {m n : Meter} {r : Ended} → v.tag ≡ 3 → many ≤ q → Mapping F Cs Ws top g many v m C W s q n → Collected C W top many n r C₁ → Mapped F Cs Ws top g v m r C₁ W
-map-done {C = C} {W} {C₁} {top} {many = many} {q} {m = m} {n} {r} tg l b c =
+pub map_done : {F Cs Ws C W C₁ : List ℕ} {top g many q : ℕ} {v s : Val} {m n : Meter} {r : Ended} → v.tag ≡ 3 → many ≤ q → Mapping F Cs Ws top g many v m C W s q n → Collected C W top many n r C₁ → Mapped F Cs Ws top g v m r C₁ W
+map_done {C = C} {W} {C₁} {top} {many = many} {q} {m = m} {n} {r} tg l b c =
     let qc : many ≡ q = omega (arith, b.most) in
     let c₁ : Collected C W top q n r C₁ = subst (λ (z : ℕ). Collected C W top z n r C₁) qc c in
     record {

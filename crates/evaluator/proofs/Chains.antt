@@ -5,7 +5,7 @@ use mathlib.Core.Path.{◌≡◌, refl, sym, ap, subst, ◌∙◌}
 use mathlib.Core.List.{List}
 use mathlib.Core.Option.{Option, some}
 use lib.ListN.{length}
-use Rattle.language.specs.Objects.{Obj, truth_of, Truth, isT, isF, neither}
+use Rattle.language.specs.Objects.{Obj, truth_of, Truth, is_T, is_F, neither}
 use Rattle.language.specs.Forms.{Form, Forms, stop, ◌&◌, ◌+&◌}
 use Rattle.language.specs.Accepted.{IsName}
 use Rattle.language.specs.Evaluation.{Out, value, bottom, spent, bind, close, Apply, lookup, chain_by, decide, no_name}
@@ -14,7 +14,7 @@ use Rattle.language.specs.declared.Meter.{Meter}
 use Rattle.language.specs.declared.Charge.{Charge}
 use Rattle.language.specs.declared.Charge.TheVariants.{Granted, Spent}
 use Rattle.language.specs.declared.Val.{Val}
-use Rattle.language.proofs.Charging.{Left, name_asked, name-given, name_granted, on_charge}
+use Rattle.language.proofs.Charging.{Left, name_asked, name_given_lem, name_granted, on_charge}
 use Rattle.cells.specs.Cells.{free}
 use Rattle.primitives.specs.declared.Ended.{Ended}
 use Rattle.primitives.specs.declared.Ended.TheVariants.{Done, Stop}
@@ -22,25 +22,25 @@ use Rattle.primitives.specs.Shapes.{truth_code, ReadTruth}
 use Rattle.evaluator.specs.declared.waiting.Asked.{Asked}
 use Rattle.evaluator.specs.declared.waiting.Asked.TheVariants.{Says, Stop as AskStop}
 use Rattle.linker.specs.Linked.{FormAt, none_yet, one_more, DefAt, no_def, a_def, link_at}
-use Rattle.evaluator.specs.Ring.{Finished, Stopped, fell, ran_out, ends-done, ends-stop}
-use Rattle.evaluator.specs.Applying.{Setting, by, At, LastAt, Given, Applied, Chained, Chosen, NameApplied, name_by, Branch, QuestionSays, says_yes, says_no, says-stop, Questioned}
+use Rattle.evaluator.specs.Ring.{Finished, Stopped, fell, ran_out, ends_done, ends_stop}
+use Rattle.evaluator.specs.Applying.{Setting, by, At, LastAt, Given, Applied, Chained, Chosen, NameApplied, name_by, Branch, QuestionSays, says_yes, says_no, says_stop, Questioned}
 use Rattle.primitives.proofs.Ending.{agree_self}
-use Rattle.evaluator.proofs.Steps.{Since, since, since_refl, since_trans, gave, gave_stop, ends_since, ends_eq, stopped_eq, stopped_bind, stopped_close, given-value, given-again, given-charged, applied_as, sinks-after, decide_true, decide-false, decide-none}
+use Rattle.evaluator.proofs.Steps.{Since, since, since_refl, since_trans, gave, gave_stop, ends_since, ends_eq, stopped_eq, stopped_bind, stopped_close, given_value, given_again, given_charged, applied_as, sinks_after, decide_true, decide_false, decide_none}
 
-bind-value : (u : Out Obj) → u ≡ bind u (λ y m. value y m)
-bind-value (value y m) = refl
-bind-value (bottom m) = refl
-bind-value (spent w m) = refl
+bind_value : (u : Out Obj) → u ≡ bind u (λ y m. value y m)
+bind_value (value y m) = refl
+bind_value (bottom m) = refl
+bind_value (spent w m) = refl
 
-bind-bind : (u : Out Obj) (k l : Obj → Meter → Out Obj) → bind (bind u k) l ≡ bind u (λ y m. bind (k y m) l)
-bind-bind (value y m) k l = refl
-bind-bind (bottom m) k l = refl
-bind-bind (spent w m) k l = refl
+bind_bind : (u : Out Obj) (k l : Obj → Meter → Out Obj) → bind (bind u k) l ≡ bind u (λ y m. bind (k y m) l)
+bind_bind (value y m) k l = refl
+bind_bind (bottom m) k l = refl
+bind_bind (spent w m) k l = refl
 
 -- the last part first, and then those before it
-chain-last : (ev : Apply) (fs : Forms) (f : Form) (x : Obj) (m : Meter) → chain_by ev (fs +& (f & stop)) x m ≡ bind (ev f x m) (chain_by ev fs)
-chain-last ev stop f x m = bind-value (ev f x m)
-chain-last ev (g & fs) f x m = ap (λ u. bind u (λ y m₁. ev g y m₁)) (chain-last ev fs f x m) ∙ bind-bind (ev f x m) (chain_by ev fs) (λ y m₁. ev g y m₁)
+chain_last : (ev : Apply) (fs : Forms) (f : Form) (x : Obj) (m : Meter) → chain_by ev (fs +& (f & stop)) x m ≡ bind (ev f x m) (chain_by ev fs)
+chain_last ev stop f x m = bind_value (ev f x m)
+chain_last ev (g & fs) f x m = ap (λ u. bind u (λ y m₁. ev g y m₁)) (chain_last ev fs f x m) ∙ bind_bind (ev f x m) (chain_by ev fs) (λ y m₁. ev g y m₁)
 
 -- ---- a chain
 pub record ChainNow (F : List ℕ) (S : Setting) (k : ℕ) (Cs Ws : List ℕ) (top : ℕ) (m : Meter) (e : Out Obj) (C W : List ℕ) (j : ℕ) (v : Val) (n : Meter) : Type 0 where
@@ -54,28 +54,28 @@ pub record ChainNow (F : List ℕ) (S : Setting) (k : ℕ) (Cs Ws : List ℕ) (t
 pub record Chaining (F Cs Ws : List ℕ) (top last : ℕ) (v₀ : Val) (m : Meter) (C W : List ℕ) (j : ℕ) (v : Val) (n : Meter) : Type 0 where
   pub sinks : (n.steps ≤ m.steps) × (n.names ≡ m.names)
   pub fits : j < 4294967296
-  pub longC : length C ≡ length Cs
+  pub long_C : length C ≡ length Cs
   pub means : (S : Setting) (k : ℕ) (fs : Forms) (x : Obj) → LastAt F S last fs → Given F S k Cs Ws m v₀ x → ChainNow F S k Cs Ws top m (chain_by (by S k) fs x m) C W j v n
 
 pub chain_start : {F C W : List ℕ} {top j : ℕ} {v : Val} {m : Meter} → j < 4294967296 → Chaining F C W top j v m C W j v m
 chain_start {F} {C} {W} {top} {m = m} z = record {
   sinks = (omega arith, refl);
   fits = z;
-  longC = refl;
+  long_C = refl;
   means = λ S k fs x p g. record { fs = fs; x = x; parts = p; given = g; since = since_refl C W top m; whole = refl };
 }
 
-step-chain : {F Cs Ws C W C₁ W₁ : List ℕ} {top j : ℕ} {v y : Val} {m n n₁ : Meter} {e : Out Obj} {fs : Forms} {x : Obj} (S : Setting) (k : ℕ) → (j ≡ 0 → ⊥) → LastAt F S j fs → Given F S k C W n v x → Since Cs Ws top m C W n → e ≡ chain_by (by S k) fs x n → Applied F C W top j v n (Done y n₁) C₁ W₁ → ChainNow F S k Cs Ws top m e C₁ W₁ (link_at F j) y n₁
-step-chain S k z (none_yet h) g s w a = absurd (z h)
-step-chain {n = n} {x = x} S k z (one_more {f = f} {before = before} l fa ps q) g s w a =
+step_chain : {F Cs Ws C W C₁ W₁ : List ℕ} {top j : ℕ} {v y : Val} {m n n₁ : Meter} {e : Out Obj} {fs : Forms} {x : Obj} (S : Setting) (k : ℕ) → (j ≡ 0 → ⊥) → LastAt F S j fs → Given F S k C W n v x → Since Cs Ws top m C W n → e ≡ chain_by (by S k) fs x n → Applied F C W top j v n (Done y n₁) C₁ W₁ → ChainNow F S k Cs Ws top m e C₁ W₁ (link_at F j) y n₁
+step_chain S k z (none_yet h) g s w a = absurd (z h)
+step_chain {n = n} {x = x} S k z (one_more {f = f} {before = before} l fa ps q) g s w a =
     let u = gave (a.means S k f x fa g) in
     record {
       fs = before;
       x = u.obj;
       parts = ps;
-      given = given-value g a.falls.0 u;
+      given = given_value g a.falls.0 u;
       since = since_trans s (since u);
-      whole = w ∙ ap (λ h. chain_by (by S k) h x n) q ∙ chain-last (by S k) before f x n ∙ ap (λ h. bind h (chain_by (by S k) before)) u.is;
+      whole = w ∙ ap (λ h. chain_by (by S k) h x n) q ∙ chain_last (by S k) before f x n ∙ ap (λ h. bind h (chain_by (by S k) before)) u.is;
     }
 
 pub chain_next : {F Cs Ws C W C₁ W₁ : List ℕ} {top last j j₁ : ℕ} {v₀ v y : Val} {m n n₁ : Meter} {r : Ended} → (j ≡ 0 → ⊥) → Chaining F Cs Ws top last v₀ m C W j v n → Applied F C W top j v n r C₁ W₁ → r ≡ Done y n₁ → j₁ ≡ link_at F j → j₁ < 4294967296 → length C₁ ≡ length C → Chaining F Cs Ws top last v₀ m C₁ W₁ j₁ y n₁
@@ -84,19 +84,19 @@ chain_next z c a e q fj lc =
     record {
       sinks = (omega (arith, b.falls.0, c.sinks.0), b.falls.1 ∙ c.sinks.1);
       fits = fj;
-      longC = lc ∙ c.longC;
-      means = λ S k fs x p g. let h = c.means S k fs x p g in rw q (step-chain S k z h.parts h.given h.since h.whole b);
+      long_C = lc ∙ c.long_C;
+      means = λ S k fs x p g. let h = c.means S k fs x p g in rw q (step_chain S k z h.parts h.given h.since h.whole b);
     }
 
-stop-chain : {F C W C₁ W₁ : List ℕ} {top j a : ℕ} {v : Val} {n n₁ : Meter} {e : Out Obj} {fs : Forms} {x : Obj} (S : Setting) (k : ℕ) → (j ≡ 0 → ⊥) → LastAt F S j fs → Given F S k C W n v x → e ≡ chain_by (by S k) fs x n → Applied F C W top j v n (Stop a n₁) C₁ W₁ → Stopped e a n₁
-stop-chain S k z (none_yet h) g w a = absurd (z h)
-stop-chain {n = n} {x = x} S k z (one_more {f = f} {before = before} l fa ps q) g w a =
-    stopped_eq (w ∙ ap (λ h. chain_by (by S k) h x n) q ∙ chain-last (by S k) before f x n) (stopped_bind (chain_by (by S k) before) (gave_stop (a.means S k f x fa g)))
+stop_chain : {F C W C₁ W₁ : List ℕ} {top j a : ℕ} {v : Val} {n n₁ : Meter} {e : Out Obj} {fs : Forms} {x : Obj} (S : Setting) (k : ℕ) → (j ≡ 0 → ⊥) → LastAt F S j fs → Given F S k C W n v x → e ≡ chain_by (by S k) fs x n → Applied F C W top j v n (Stop a n₁) C₁ W₁ → Stopped e a n₁
+stop_chain S k z (none_yet h) g w a = absurd (z h)
+stop_chain {n = n} {x = x} S k z (one_more {f = f} {before = before} l fa ps q) g w a =
+    stopped_eq (w ∙ ap (λ h. chain_by (by S k) h x n) q ∙ chain_last (by S k) before f x n) (stopped_bind (chain_by (by S k) before) (gave_stop (a.means S k f x fa g)))
 
-pub chain-stop : {F Cs Ws C W C₁ W₁ : List ℕ} {top last j a : ℕ} {v₀ v : Val} {m n n₁ : Meter} {r : Ended} → (j ≡ 0 → ⊥) → Chaining F Cs Ws top last v₀ m C W j v n → Applied F C W top j v n r C₁ W₁ → r ≡ Stop a n₁ → Chained F Cs Ws top last v₀ m (Stop a n₁) C₁ W₁
-chain-stop z c a e = record {
+pub chain_stop : {F Cs Ws C W C₁ W₁ : List ℕ} {top last j a : ℕ} {v₀ v : Val} {m n n₁ : Meter} {r : Ended} → (j ≡ 0 → ⊥) → Chaining F Cs Ws top last v₀ m C W j v n → Applied F C W top j v n r C₁ W₁ → r ≡ Stop a n₁ → Chained F Cs Ws top last v₀ m (Stop a n₁) C₁ W₁
+chain_stop z c a e = record {
   sinks = tt;
-  means = λ S k fs x p g. let h = c.means S k fs x p g in ends-stop (stop-chain S k z h.parts h.given h.whole (applied_as e a));
+  means = λ S k fs x p g. let h = c.means S k fs x p g in ends_stop (stop_chain S k z h.parts h.given h.whole (applied_as e a));
 }
 
 end_chain : {F Cs Ws C W : List ℕ} {top j : ℕ} {v : Val} {m n : Meter} {e : Out Obj} {fs : Forms} {x : Obj} (S : Setting) (k : ℕ) → j ≡ 0 → LastAt F S j fs → Given F S k C W n v x → Since Cs Ws top m C W n → e ≡ chain_by (by S k) fs x n → Finished Cs Ws top m e v n C W
@@ -106,27 +106,27 @@ end_chain S k z (one_more l fa ps q) g s w = absurd (omega arith)
 pub chain_end : {F Cs Ws C W : List ℕ} {top last j : ℕ} {v₀ v : Val} {m n : Meter} → j ≡ 0 → Chaining F Cs Ws top last v₀ m C W j v n → Chained F Cs Ws top last v₀ m (Done v n) C W
 chain_end z c = record {
   sinks = c.sinks;
-  means = λ S k fs x p g. let h = c.means S k fs x p g in ends-done (end_chain S k z h.parts h.given h.since h.whole);
+  means = λ S k fs x p g. let h = c.means S k fs x p g in ends_done (end_chain S k z h.parts h.given h.since h.whole);
 }
 
 -- ---- a question: what the number says that its value was read as
-is_yes : (t : Truth) → 1 ≡ truth_code t → t ≡ isT
-is_yes isT e = refl
-is_yes isF e = absurd (omega arith)
+is_yes : (t : Truth) → 1 ≡ truth_code t → t ≡ is_T
+is_yes is_T e = refl
+is_yes is_F e = absurd (omega arith)
 is_yes neither e = absurd (omega arith)
 
-is_no : (t : Truth) → 0 ≡ truth_code t → t ≡ isF
-is_no isT e = absurd (omega arith)
-is_no isF e = refl
+is_no : (t : Truth) → 0 ≡ truth_code t → t ≡ is_F
+is_no is_T e = absurd (omega arith)
+is_no is_F e = refl
 is_no neither e = absurd (omega arith)
 
 is_neither : {n : ℕ} (t : Truth) → n ≡ truth_code t → (n ≡ 1 → ⊥) → (n ≡ 0 → ⊥) → t ≡ neither
-is_neither isT e h z = absurd (h e)
-is_neither isF e h z = absurd (z e)
+is_neither is_T e h z = absurd (h e)
+is_neither is_F e h z = absurd (z e)
 is_neither neither e h z = refl
 
 pub ask_stop : {F C W C₁ W₁ : List ℕ} {top h a : ℕ} {v : Val} {m n : Meter} {r : Ended} → Applied F C W top h v m r C₁ W₁ → r ≡ Stop a n → Questioned F C W top h v m (AskStop a n) C₁ W₁
-ask_stop a e = record { falls = tt; means = λ S k p x at gv. says-stop (λ onT onF. stopped_bind (λ b m₁. decide b m₁ onT onF) (gave_stop ((applied_as e a).means S k p x at gv))) }
+ask_stop a e = record { falls = tt; means = λ S k p x at gv. says_stop (λ on_T on_F. stopped_bind (λ b m₁. decide b m₁ on_T on_F) (gave_stop ((applied_as e a).means S k p x at gv))) }
 
 pub ask_yes : {F C W C₁ W₁ : List ℕ} {top h b : ℕ} {v y : Val} {m n : Meter} {r : Ended} → Applied F C W top h v m r C₁ W₁ → r ≡ Done y n → ReadTruth y b → b ≡ 1 → Questioned F C W top h v m (Says 1 n) C₁ W₁
 ask_yes {C₁ = C₁} {n = n} a e rt t =
@@ -145,20 +145,20 @@ ask_none {C₁ = C₁} {n = n} a e rt d t =
       falls = tt;
       means = λ S k p x at gv.
           let u = gave (a'.means S k p x at gv) in
-          says-stop (λ onT onF. fell (ap (λ w. bind w (λ b m₁. decide b m₁ onT onF)) u.is ∙ decide-none u.obj n onT onF (is_neither (truth_of u.obj) (rt.means C₁ (free C₁ n) u.obj u.made.rep) d t)) refl (agree_self n));
+          says_stop (λ on_T on_F. fell (ap (λ w. bind w (λ b m₁. decide b m₁ on_T on_F)) u.is ∙ decide_none u.obj n on_T on_F (is_neither (truth_of u.obj) (rt.means C₁ (free C₁ n) u.obj u.made.rep) d t)) refl (agree_self n));
     }
 
 asked_as : {F C W C₁ W₁ : List ℕ} {top i : ℕ} {v : Val} {m : Meter} {r r' : Asked} → r ≡ r' → Questioned F C W top i v m r C₁ W₁ → Questioned F C W top i v m r' C₁ W₁
 asked_as {F} {C} {W} {C₁} {W₁} {top} {i} {v} {m} e a = subst (λ r. Questioned F C W top i v m r C₁ W₁) e a
 
-pub says-fell : {F C W C₁ W₁ : List ℕ} {top h b : ℕ} {v : Val} {m k : Meter} {r : Asked} → Questioned F C W top h v m r C₁ W₁ → r ≡ Says b k → k.steps < m.steps
-says-fell a e = (asked_as e a).falls.0
+pub says_fell : {F C W C₁ W₁ : List ℕ} {top h b : ℕ} {v : Val} {m k : Meter} {r : Asked} → Questioned F C W top h v m r C₁ W₁ → r ≡ Says b k → k.steps < m.steps
+says_fell a e = (asked_as e a).falls.0
 
-pub says-names : {F C W C₁ W₁ : List ℕ} {top h b : ℕ} {v : Val} {m k : Meter} {r : Asked} → Questioned F C W top h v m r C₁ W₁ → r ≡ Says b k → k.names ≡ m.names
-says-names a e = (asked_as e a).falls.1
+pub says_names : {F C W C₁ W₁ : List ℕ} {top h b : ℕ} {v : Val} {m k : Meter} {r : Asked} → Questioned F C W top h v m r C₁ W₁ → r ≡ Says b k → k.names ≡ m.names
+says_names a e = (asked_as e a).falls.1
 
-pub below-says : {F C W C₁ W₁ : List ℕ} {top h b : ℕ} {v : Val} {m k : Meter} {r : Asked} (t : ℕ) → Questioned F C W top h v m r C₁ W₁ → r ≡ Says b k → 5 * m.steps + 4 ≡ t → 5 * k.steps + 1 < t
-below-says t a e q = omega (arith, says-fell a e)
+pub below_says : {F C W C₁ W₁ : List ℕ} {top h b : ℕ} {v : Val} {m k : Meter} {r : Asked} (t : ℕ) → Questioned F C W top h v m r C₁ W₁ → r ≡ Says b k → 5 * m.steps + 4 ≡ t → 5 * k.steps + 1 < t
+below_says t a e q = omega (arith, says_fell a e)
 
 -- what the question's outcome was
 pub record Said (C W : List ℕ) (top : ℕ) (m : Meter) (e : Out Obj) (t : Truth) (k : Meter) (C₁ W₁ : List ℕ) : Type 0 where
@@ -166,66 +166,66 @@ pub record Said (C W : List ℕ) (top : ℕ) (m : Meter) (e : Out Obj) (t : Trut
   pub done : Finished C W top m e val k C₁ W₁
   pub says : truth_of done.obj ≡ t
 
-said_yes : {C W C₁ W₁ : List ℕ} {top b : ℕ} {m k : Meter} {e : Out Obj} → (b ≡ 0 → ⊥) → QuestionSays C W top m e C₁ W₁ (Says b k) → Said C W top m e isT k C₁ W₁
+said_yes : {C W C₁ W₁ : List ℕ} {top b : ℕ} {m k : Meter} {e : Out Obj} → (b ≡ 0 → ⊥) → QuestionSays C W top m e C₁ W₁ (Says b k) → Said C W top m e is_T k C₁ W₁
 said_yes z (says_yes {v = v} u t) = record { val = v; done = u; says = t }
 said_yes z (says_no u t) = absurd (z refl)
 
-said_no : {C W C₁ W₁ : List ℕ} {top b : ℕ} {m k : Meter} {e : Out Obj} → b ≡ 0 → QuestionSays C W top m e C₁ W₁ (Says b k) → Said C W top m e isF k C₁ W₁
+said_no : {C W C₁ W₁ : List ℕ} {top b : ℕ} {m k : Meter} {e : Out Obj} → b ≡ 0 → QuestionSays C W top m e C₁ W₁ (Says b k) → Said C W top m e is_F k C₁ W₁
 said_no z (says_no {v = v} u t) = record { val = v; done = u; says = t }
 said_no z (says_yes u t) = absurd (omega arith)
 
-said_stop : {C W C₁ W₁ : List ℕ} {top a : ℕ} {m k : Meter} {e : Out Obj} → QuestionSays C W top m e C₁ W₁ (AskStop a k) → (onT onF : Meter → Out Obj) → Stopped (bind e (λ b m₁. decide b m₁ onT onF)) a k
-said_stop (says-stop s) = s
+said_stop : {C W C₁ W₁ : List ℕ} {top a : ℕ} {m k : Meter} {e : Out Obj} → QuestionSays C W top m e C₁ W₁ (AskStop a k) → (on_T on_F : Meter → Out Obj) → Stopped (bind e (λ b m₁. decide b m₁ on_T on_F)) a k
+said_stop (says_stop s) = s
 
 -- the three ways that a question goes
-pub on_yes : {F C W C₁ W₁ : List ℕ} {top h b : ℕ} {v : Val} {m n : Meter} {r : Asked} {p : Form} {x : Obj} (S : Setting) (k : ℕ) → Questioned F C W top h v m r C₁ W₁ → r ≡ Says b n → (b ≡ 0 → ⊥) → At F S h p → Given F S k C W m v x → Said C W top m (by S k p x m) isT n C₁ W₁
+pub on_yes : {F C W C₁ W₁ : List ℕ} {top h b : ℕ} {v : Val} {m n : Meter} {r : Asked} {p : Form} {x : Obj} (S : Setting) (k : ℕ) → Questioned F C W top h v m r C₁ W₁ → r ≡ Says b n → (b ≡ 0 → ⊥) → At F S h p → Given F S k C W m v x → Said C W top m (by S k p x m) is_T n C₁ W₁
 on_yes {p = p} {x} S k a e z at gv = said_yes z ((asked_as e a).means S k p x at gv)
 
-pub on_no : {F C W C₁ W₁ : List ℕ} {top h b : ℕ} {v : Val} {m n : Meter} {r : Asked} {p : Form} {x : Obj} (S : Setting) (k : ℕ) → Questioned F C W top h v m r C₁ W₁ → r ≡ Says b n → b ≡ 0 → At F S h p → Given F S k C W m v x → Said C W top m (by S k p x m) isF n C₁ W₁
+pub on_no : {F C W C₁ W₁ : List ℕ} {top h b : ℕ} {v : Val} {m n : Meter} {r : Asked} {p : Form} {x : Obj} (S : Setting) (k : ℕ) → Questioned F C W top h v m r C₁ W₁ → r ≡ Says b n → b ≡ 0 → At F S h p → Given F S k C W m v x → Said C W top m (by S k p x m) is_F n C₁ W₁
 on_no {p = p} {x} S k a e z at gv = said_no z ((asked_as e a).means S k p x at gv)
 
-pub on_stop : {F C W C₁ W₁ : List ℕ} {top h a : ℕ} {v : Val} {m n : Meter} {r : Asked} {p : Form} {x : Obj} (S : Setting) (k : ℕ) → Questioned F C W top h v m r C₁ W₁ → r ≡ AskStop a n → At F S h p → Given F S k C W m v x → (onT onF : Meter → Out Obj) → Stopped (bind (by S k p x m) (λ b m₁. decide b m₁ onT onF)) a n
+pub on_stop : {F C W C₁ W₁ : List ℕ} {top h a : ℕ} {v : Val} {m n : Meter} {r : Asked} {p : Form} {x : Obj} (S : Setting) (k : ℕ) → Questioned F C W top h v m r C₁ W₁ → r ≡ AskStop a n → At F S h p → Given F S k C W m v x → (on_T on_F : Meter → Out Obj) → Stopped (bind (by S k p x m) (λ b m₁. decide b m₁ on_T on_F)) a n
 on_stop {p = p} {x} S k a e at gv = said_stop ((asked_as e a).means S k p x at gv)
 
-pub decided_yes : {C W C₁ W₁ : List ℕ} {top : ℕ} {m n : Meter} {e : Out Obj} (onT onF : Meter → Out Obj) → Said C W top m e isT n C₁ W₁ → bind e (λ b m₁. decide b m₁ onT onF) ≡ onT n
-decided_yes {n = n} onT onF u = ap (λ w. bind w (λ b m₁. decide b m₁ onT onF)) u.done.is ∙ decide_true u.done.obj n onT onF u.says
+pub decided_yes : {C W C₁ W₁ : List ℕ} {top : ℕ} {m n : Meter} {e : Out Obj} (on_T on_F : Meter → Out Obj) → Said C W top m e is_T n C₁ W₁ → bind e (λ b m₁. decide b m₁ on_T on_F) ≡ on_T n
+decided_yes {n = n} on_T on_F u = ap (λ w. bind w (λ b m₁. decide b m₁ on_T on_F)) u.done.is ∙ decide_true u.done.obj n on_T on_F u.says
 
-pub decided_no : {C W C₁ W₁ : List ℕ} {top : ℕ} {m n : Meter} {e : Out Obj} (onT onF : Meter → Out Obj) → Said C W top m e isF n C₁ W₁ → bind e (λ b m₁. decide b m₁ onT onF) ≡ onF n
-decided_no {n = n} onT onF u = ap (λ w. bind w (λ b m₁. decide b m₁ onT onF)) u.done.is ∙ decide-false u.done.obj n onT onF u.says
+pub decided_no : {C W C₁ W₁ : List ℕ} {top : ℕ} {m n : Meter} {e : Out Obj} (on_T on_F : Meter → Out Obj) → Said C W top m e is_F n C₁ W₁ → bind e (λ b m₁. decide b m₁ on_T on_F) ≡ on_F n
+decided_no {n = n} on_T on_F u = ap (λ w. bind w (λ b m₁. decide b m₁ on_T on_F)) u.done.is ∙ decide_false u.done.obj n on_T on_F u.says
 
 -- ---- a condition
-pub cond-stop : {F C W C₁ W₁ : List ℕ} {top h a : ℕ} {v : Val} {m n : Meter} {r : Asked} → Questioned F C W top h v m r C₁ W₁ → r ≡ AskStop a n → Chosen F C W top h v m (Stop a n) C₁ W₁
-cond-stop a e = record { sinks = tt; means = λ S k p f g x at ft gt gv. ends-stop (on_stop S k a e at gv (by S k f x) (by S k g x)) }
+pub cond_stop : {F C W C₁ W₁ : List ℕ} {top h a : ℕ} {v : Val} {m n : Meter} {r : Asked} → Questioned F C W top h v m r C₁ W₁ → r ≡ AskStop a n → Chosen F C W top h v m (Stop a n) C₁ W₁
+cond_stop a e = record { sinks = tt; means = λ S k p f g x at ft gt gv. ends_stop (on_stop S k a e at gv (by S k f x) (by S k g x)) }
 
-cond-true : {F C W C₁ W₁ C₂ W₂ : List ℕ} {top h b j : ℕ} {v : Val} {m n : Meter} {r : Asked} {r₂ : Ended} → Questioned F C W top h v m r C₁ W₁ → r ≡ Says b n → (b ≡ 0 → ⊥) → j ≡ link_at F h → Applied F C₁ W₁ top j v n r₂ C₂ W₂ → Chosen F C W top h v m r₂ C₂ W₂
-cond-true {m = m} {n} {r₂ = r₂} a e y z b = record {
-  sinks = sinks-after r₂ m n b.falls (says-fell a e, says-names a e);
+cond_true : {F C W C₁ W₁ C₂ W₂ : List ℕ} {top h b j : ℕ} {v : Val} {m n : Meter} {r : Asked} {r₂ : Ended} → Questioned F C W top h v m r C₁ W₁ → r ≡ Says b n → (b ≡ 0 → ⊥) → j ≡ link_at F h → Applied F C₁ W₁ top j v n r₂ C₂ W₂ → Chosen F C W top h v m r₂ C₂ W₂
+cond_true {m = m} {n} {r₂ = r₂} a e y z b = record {
+  sinks = sinks_after r₂ m n b.falls (says_fell a e, says_names a e);
   means = λ S k p f g x at ft gt gv.
       let u = on_yes S k a e y at gv in
-      ends_eq (decided_yes (by S k f x) (by S k g x) u) (ends_since (since u.done) (b.means S k f x (rw z ft) (given-again gv (says-fell a e) u.done)));
+      ends_eq (decided_yes (by S k f x) (by S k g x) u) (ends_since (since u.done) (b.means S k f x (rw z ft) (given_again gv (says_fell a e) u.done)));
 }
 
-cond-false : {F C W C₁ W₁ C₂ W₂ : List ℕ} {top h b j : ℕ} {v : Val} {m n : Meter} {r : Asked} {r₂ : Ended} → Questioned F C W top h v m r C₁ W₁ → r ≡ Says b n → b ≡ 0 → j ≡ link_at F (link_at F h) → Applied F C₁ W₁ top j v n r₂ C₂ W₂ → Chosen F C W top h v m r₂ C₂ W₂
-cond-false {m = m} {n} {r₂ = r₂} a e y z b = record {
-  sinks = sinks-after r₂ m n b.falls (says-fell a e, says-names a e);
+cond_false : {F C W C₁ W₁ C₂ W₂ : List ℕ} {top h b j : ℕ} {v : Val} {m n : Meter} {r : Asked} {r₂ : Ended} → Questioned F C W top h v m r C₁ W₁ → r ≡ Says b n → b ≡ 0 → j ≡ link_at F (link_at F h) → Applied F C₁ W₁ top j v n r₂ C₂ W₂ → Chosen F C W top h v m r₂ C₂ W₂
+cond_false {m = m} {n} {r₂ = r₂} a e y z b = record {
+  sinks = sinks_after r₂ m n b.falls (says_fell a e, says_names a e);
   means = λ S k p f g x at ft gt gv.
       let u = on_no S k a e y at gv in
-      ends_eq (decided_no (by S k f x) (by S k g x) u) (ends_since (since u.done) (b.means S k g x (rw z gt) (given-again gv (says-fell a e) u.done)));
+      ends_eq (decided_no (by S k f x) (by S k g x) u) (ends_since (since u.done) (b.means S k g x (rw z gt) (given_again gv (says_fell a e) u.done)));
 }
 
-pub cond-done : {F C W C₁ W₁ C₂ W₂ : List ℕ} {top h b j : ℕ} {v : Val} {m n : Meter} {r : Asked} {r₂ : Ended} → Questioned F C W top h v m r C₁ W₁ → r ≡ Says b n → Branch F h b j → Applied F C₁ W₁ top j v n r₂ C₂ W₂ → Chosen F C W top h v m r₂ C₂ W₂
-cond-done {b = zero} a e z y = cond-false a e refl (z.on_false refl) y
-cond-done {b = suc d} a e z y =
+pub cond_done : {F C W C₁ W₁ C₂ W₂ : List ℕ} {top h b j : ℕ} {v : Val} {m n : Meter} {r : Asked} {r₂ : Ended} → Questioned F C W top h v m r C₁ W₁ → r ≡ Says b n → Branch F h b j → Applied F C₁ W₁ top j v n r₂ C₂ W₂ → Chosen F C W top h v m r₂ C₂ W₂
+cond_done {b = zero} a e z y = cond_false a e refl (z.on_false refl) y
+cond_done {b = suc d} a e z y =
     let o : suc d ≡ 0 → ⊥ = λ q. absurd (omega arith) in
-    cond-true a e o (z.on_true o) y
+    cond_true a e o (z.on_true o) y
 
 -- ---- a name
 none_named : {F C : List ℕ} {n d : ℕ} {root : List ℕ → ℕ} {b : Option Form} (ev : Apply) (x : Obj) (m : Meter) → d ≡ 0 → DefAt F C n root d b → name_by ev b x m ≡ bottom m
 none_named ev x m z (no_def e) = refl
 none_named ev x m z (a_def {i = i} e f) = absurd (omega arith)
 
-pub name-none : {F C W : List ℕ} {top d : ℕ} {v : Val} {m : Meter} → d ≡ 0 → NameApplied F C W top d v m (Stop 21 m) C W
-name-none {m = m} z = record { sinks = tt; means = λ S k w x nm q gv. ends-stop (fell (none_named (by S k) x m (sym q ∙ z) (gv.defs w nm)) refl (agree_self m)) }
+pub name_none : {F C W : List ℕ} {top d : ℕ} {v : Val} {m : Meter} → d ≡ 0 → NameApplied F C W top d v m (Stop 21 m) C W
+name_none {m = m} z = record { sinks = tt; means = λ S k w x nm q gv. ends_stop (fell (none_named (by S k) x m (sym q ∙ z) (gv.defs w nm)) refl (agree_self m)) }
 
 -- a defined name is asked for, and then its body
 body_asked : {b : Option Form} (ev : Apply) (f : Form) (x : Obj) (m : Meter) → b ≡ some f → name_by ev b x m ≡ on_charge (name_charge m) no_name (λ m₁. close m.names (ev f x m₁))
@@ -250,16 +250,16 @@ pub name_full : {F C W : List ℕ} {top d : ℕ} {v : Val} {m n : Meter} {ch : C
 name_full {m = m} {n} z a b = record {
   sinks = tt;
   means = λ S k w x nm q gv. let y = body w nm z q gv in
-      ends-stop (ran_out (body_asked (by S k) y.form x m y.is ∙ ap (λ u. on_charge u no_name (λ m₁. close m.names (by S k y.form x m₁))) (sym a ∙ b)) refl (agree_self n));
+      ends_stop (ran_out (body_asked (by S k) y.form x m y.is ∙ ap (λ u. on_charge u no_name (λ m₁. close m.names (by S k y.form x m₁))) (sym a ∙ b)) refl (agree_self n));
 }
 
-pub name-stop : {F C W C₁ W₁ : List ℕ} {top d a : ℕ} {v : Val} {m m₁ n : Meter} {ch : Charge} {r : Ended} → (d ≡ 0 → ⊥) → ch ≡ name_charge m → ch ≡ Granted m₁ → Applied F C W top (d - 1) v m₁ r C₁ W₁ → r ≡ Stop a n → NameApplied F C W top d v m (Stop a n) C₁ W₁
-name-stop {m = m} {m₁} z a b p e = record {
+pub name_stop : {F C W C₁ W₁ : List ℕ} {top d a : ℕ} {v : Val} {m m₁ n : Meter} {ch : Charge} {r : Ended} → (d ≡ 0 → ⊥) → ch ≡ name_charge m → ch ≡ Granted m₁ → Applied F C W top (d - 1) v m₁ r C₁ W₁ → r ≡ Stop a n → NameApplied F C W top d v m (Stop a n) C₁ W₁
+name_stop {m = m} {m₁} z a b p e = record {
   sinks = tt;
   means = λ S k w x nm q gv. let y = body w nm z q gv in
       let c = name_granted m (sym a ∙ b) in
-      ends-stop (stopped_eq (body_asked (by S k) y.form x m y.is ∙ ap (λ u. on_charge u no_name (λ m₁. close m.names (by S k y.form x m₁))) (sym a ∙ b))
-      (stopped_close m.names (gave_stop ((applied_as e p).means S k y.form x y.at (given-charged 0 1 k c (omega arith) gv)))));
+      ends_stop (stopped_eq (body_asked (by S k) y.form x m y.is ∙ ap (λ u. on_charge u no_name (λ m₁. close m.names (by S k y.form x m₁))) (sym a ∙ b))
+      (stopped_close m.names (gave_stop ((applied_as e p).means S k y.form x y.at (given_charged 0 1 k c (omega arith) gv)))));
 }
 
 -- where a name was opened, a body that ended leaves room to close it
@@ -267,9 +267,9 @@ pub may_close : (m : Meter) {F C W C₁ W₁ : List ℕ} {top i : ℕ} {v y : Va
 may_close m p e a b l = omega (arith, (applied_as e p).falls.1, (name_granted m (sym a ∙ b)).names)
 
 -- the names are as before once the name is closed
-closed-body : {C W C₁ W₁ : List ℕ} {top : ℕ} {y : Val} {m m₁ n n₁ : Meter} {e e₁ : Out Obj} → e ≡ close m.names e₁ → Left m m₁ 0 1 0 → n.names ≡ m₁.names → n₁ ≡ name_given n → Finished C W top m₁ e₁ y n C₁ W₁ → Finished C W top m e y n₁ C₁ W₁
-closed-body {C} {C₁ = C₁} {m = m} {m₁} {n} q c ns z u =
-    let w : name_given n ≡ with_names m.names n = name-given m.names n (omega (arith, c.names)) in
+closed_body : {C W C₁ W₁ : List ℕ} {top : ℕ} {y : Val} {m m₁ n n₁ : Meter} {e e₁ : Out Obj} → e ≡ close m.names e₁ → Left m m₁ 0 1 0 → n.names ≡ m₁.names → n₁ ≡ name_given n → Finished C W top m₁ e₁ y n C₁ W₁ → Finished C W top m e y n₁ C₁ W₁
+closed_body {C} {C₁ = C₁} {m = m} {m₁} {n} q c ns z u =
+    let w : name_given n ≡ with_names m.names n = name_given_lem m.names n (omega (arith, c.names)) in
     let f : free C m ≡ free C m₁ = omega (arith, c.cells) in
     let k : m₁.cells ≡ m.cells = omega (arith, c.cells) in
     rw (z, w) (record {
@@ -287,6 +287,6 @@ name_done {m = m} {m₁} {n} {n₁} z a b p e cl =
     record {
       sinks = (omega (arith, p₁.falls.0, c.steps, ap (λ u. u.steps) cl), omega (arith, p₁.falls.1, c.names, ap (λ u. u.names) cl));
       means = λ S k w x nm q gv. let y = body w nm z q gv in
-          ends-done (closed-body (body_asked (by S k) y.form x m y.is ∙ ap (λ u. on_charge u no_name (λ m₁. close m.names (by S k y.form x m₁))) (sym a ∙ b)) c p₁.falls.1 cl
-          (gave (p₁.means S k y.form x y.at (given-charged 0 1 k c (omega arith) gv))));
+          ends_done (closed_body (body_asked (by S k) y.form x m y.is ∙ ap (λ u. on_charge u no_name (λ m₁. close m.names (by S k y.form x m₁))) (sym a ∙ b)) c p₁.falls.1 cl
+          (gave (p₁.means S k y.form x y.at (given_charged 0 1 k c (omega arith) gv))));
     }

@@ -14,13 +14,13 @@ use Rattle.language.specs.declared.Val.{Val}
 use Rattle.primitives.specs.declared.Ended.{Ended}
 use Rattle.primitives.specs.declared.Ended.TheVariants.{Done, Stop}
 use Rattle.primitives.specs.Ends.{Sinks}
-use Rattle.evaluator.specs.Ring.{ran_out, Ends, ends-done, ends-stop}
+use Rattle.evaluator.specs.Ring.{ran_out, Ends, ends_done, ends_stop}
 use Rattle.language.specs.Evaluation.{Out, no_cell}
 use Rattle.language.specs.Charging.{cells_charge}
 use Rattle.language.proofs.Charging.{Left, cells_asked, cells_granted, on_charge}
 use Rattle.cells.specs.Cells.{Rep, Same, free}
 use Rattle.cells.specs.Parts.{held_at, Paired}
-use Rattle.cells.proofs.Reps.{same-trans, rep_ext, free_is, free-room}
+use Rattle.cells.proofs.Reps.{same_trans, rep_ext, free_is, free_room}
 use Rattle.evaluator.specs.Applying.{Setting, by, Given, Applied, Falls, Spends, Bound, Folded, on_pair_of}
 use Rattle.primitives.proofs.Ending.{agree_self}
 use Rattle.evaluator.proofs.Steps.{Since, kept_refl, ends_since, ends_eq, few_cells}
@@ -31,13 +31,13 @@ paired {C = C} {W} {C₁} {p = p} top {m = m} {m₁} {xa = xa} {xb} g pe e ra rb
     let c = cells_granted 2 m e in
     let w = free_is p g.room pe in
     let f = few_cells g.room in
-    let z = pr.means xa xb (omega (arith, g.room.small)) (omega (arith, free-room C m g.room, c.cells)) (rw w ra) (rw w rb) in
+    let z = pr.means xa xb (omega (arith, g.room.small)) (omega (arith, free_room C m g.room, c.cells)) (rw w ra) (rw w rb) in
     let s : Same C C₁ (free C m) = rw w at z.1 in
     let q : p + 2 ≡ free C₁ m₁ = omega (arith, c.cells, g.room.fits) in (
       record { same = s; fewer = omega (arith, c.cells); long = lc; kept = kept_refl W top m.cells m₁.cells },
       record {
         defs = g.defs;
-        still = same-trans g.low g.still s;
+        still = same_trans g.low g.still s;
         low = omega (arith, c.cells, g.low);
         room = record { fits = omega (arith, c.cells, g.room.fits); small = omega (arith, g.room.small) };
         ring = g.ring;
@@ -51,11 +51,11 @@ pair_asked m S j f a b e c h = cells_asked 2 m (λ m₁. by S j f (pair a b) m�
 
 -- ---- `{f,x}`
 pub bu_full : {F C W : List ℕ} {top g : ℕ} {a v : Val} {m k : Meter} {ch : Charge} → ch ≡ cells_charge 2 m → ch ≡ Spent k → Bound F C W top g a v m (Stop 24 k) C W
-bu_full {m = m} {k} a b = record { sinks = tt; means = λ S j f y x fa ra g. ends-stop (ran_out (pair_asked m S j f y x a (Spent k) b) refl (agree_self k)) }
+bu_full {m = m} {k} a b = record { sinks = tt; means = λ S j f y x fa ra g. ends_stop (ran_out (pair_asked m S j f y x a (Spent k) b) refl (agree_self k)) }
 
-falls-sinks : (r : Ended) (m k : Meter) {c : ℕ} → Falls r k → Left m k 0 0 c → Sinks r m
-falls-sinks (Done v l) m k f s = (omega (arith, f.0, s.steps), omega (arith, f.1, s.names))
-falls-sinks (Stop v l) m k f s = tt
+falls_sinks : (r : Ended) (m k : Meter) {c : ℕ} → Falls r k → Left m k 0 0 c → Sinks r m
+falls_sinks (Done v l) m k f s = (omega (arith, f.0, s.steps), omega (arith, f.1, s.names))
+falls_sinks (Stop v l) m k f s = tt
 
 falls_on : (r : Ended) (m k : Meter) {c : ℕ} → Falls r k → Left m k 0 0 c → Falls r m
 falls_on (Done v l) m k f s = (omega (arith, f.0, s.steps), omega (arith, f.1, s.names))
@@ -65,7 +65,7 @@ pub bu_done : {F C W C₁ C₂ W₂ : List ℕ} {top g p : ℕ} {a v y : Val} {m
 bu_done {C = C} {top = top} {m = m} {k} {r = r} pe a b pr lc ap1 =
     let e = sym a ∙ b in
     record {
-      sinks = falls-sinks r m k ap1.falls (cells_granted 2 m e);
+      sinks = falls_sinks r m k ap1.falls (cells_granted 2 m e);
       means = λ S j f y x fa ra g.
           let z = paired top g pe e (rep_ext g.still g.low ra) g.arg pr lc in
           ends_eq (pair_asked m S j f y x a (Granted k) b) (ends_since z.0 (ap1.means S j f (pair y x) fa z.1));
@@ -73,11 +73,11 @@ bu_done {C = C} {top = top} {m = m} {k} {r = r} pe a b pr lc ap1 =
 
 -- ---- one pair of an insert
 pub fold_full : {F C W : List ℕ} {top g : ℕ} {v : Val} {m k : Meter} {ch : Charge} → ch ≡ cells_charge 2 m → ch ≡ Spent k → Folded F C W top g v m (Stop 24 k) C W
-fold_full {m = m} {k} a b = record { falls = tt; means = λ S j f x acc fa g r. (ends-stop (ran_out (pair_asked m S j f x acc a (Spent k) b) refl (agree_self k)), tt) }
+fold_full {m = m} {k} a b = record { falls = tt; means = λ S j f x acc fa g r. (ends_stop (ran_out (pair_asked m S j f x acc a (Spent k) b) refl (agree_self k)), tt) }
 
 spends_after : {C W C₁ W₁ : List ℕ} {top : ℕ} {k : Meter} {e : Out Obj} {r : Ended} (m : Meter) (c : ℕ) → k.cells + c ≡ m.cells → Ends C W top k e C₁ W₁ r → Spends r m c
-spends_after m c e (ends-done g) = omega (arith, g.made.fewer)
-spends_after m c e (ends-stop g) = tt
+spends_after m c e (ends_done g) = omega (arith, g.made.fewer)
+spends_after m c e (ends_stop g) = tt
 
 pub fold_done : {F C W C₁ C₂ W₂ : List ℕ} {top g p : ℕ} {v x y : Val} {m k : Meter} {ch : Charge} {r : Ended} → Applied F C₁ W top g y k r C₂ W₂ → Paired C p x v y C₁ → x ≡ held_at W top → length C₁ ≡ length C → p ≡ free C m % 4294967296 → ch ≡ cells_charge 2 m → ch ≡ Granted k → Folded F C W top g v m r C₂ W₂
 fold_done {C = C} {top = top} {x = u} {m = m} {k} {r = r} ap1 pr h lc pe a b =

@@ -11,14 +11,14 @@ use Rattle.language.specs.declared.Meter.{Meter}
 use Rattle.language.specs.declared.Val.{Val}
 use Rattle.primitives.specs.declared.Ended.{Ended}
 use Rattle.primitives.specs.declared.Ended.TheVariants.{Done, Stop}
-use Rattle.evaluator.specs.Ring.{Stopped, ends-done, ends-stop}
+use Rattle.evaluator.specs.Ring.{Stopped, ends_done, ends_stop}
 use Rattle.language.specs.Evaluation.{Out, value, spent, bind, decide, while_by, inside, no_step}
 use Rattle.evaluator.specs.declared.waiting.Asked.{Asked}
 use Rattle.evaluator.specs.declared.waiting.Asked.TheVariants.{Says, Stop as AskStop}
 use Rattle.linker.specs.Linked.{link_at}
 use Rattle.evaluator.specs.Applying.{Setting, by, At, Given, Applied, Repeated, Questioned}
-use Rattle.evaluator.proofs.Steps.{Since, since, since_refl, since_trans, gave, gave_stop, stopped_eq, stopped_bind, given-value, given-again, applied_as, fell_by}
-use Rattle.evaluator.proofs.Chains.{says-fell, says-names, on_yes, on_no, on_stop, decided_yes, decided_no}
+use Rattle.evaluator.proofs.Steps.{Since, since, since_refl, since_trans, gave, gave_stop, stopped_eq, stopped_bind, given_value, given_again, applied_as, fell_by}
+use Rattle.evaluator.proofs.Chains.{says_fell, says_names, on_yes, on_no, on_stop, decided_yes, decided_no}
 
 pub record RepeatNow (F : List ℕ) (S : Setting) (k : ℕ) (Cs Ws : List ℕ) (top : ℕ) (m : Meter) (p f : Form) (e : Out Obj) (C W : List ℕ) (v : Val) (n : Meter) : Type 0 where
   pub j : ℕ
@@ -30,22 +30,22 @@ pub record RepeatNow (F : List ℕ) (S : Setting) (k : ℕ) (Cs Ws : List ℕ) (
 
 pub record Repeating (F Cs Ws : List ℕ) (top h : ℕ) (v₀ : Val) (m : Meter) (C W : List ℕ) (v : Val) (n : Meter) : Type 0 where
   pub sinks : (n.steps ≤ m.steps) × (n.names ≡ m.names)
-  pub longC : length C ≡ length Cs
+  pub long_C : length C ≡ length Cs
   pub means : (S : Setting) (k : ℕ) (p f : Form) (x : Obj) → At F S h p → At F S (link_at F h) f → Given F S k Cs Ws m v₀ x → RepeatNow F S k Cs Ws top m p f (while_by (by S k) k p f x m) C W v n
 
 pub repeat_start : {F C W : List ℕ} {top h : ℕ} {v : Val} {m : Meter} → Repeating F C W top h v m C W v m
 repeat_start {C = C} {W} {top} {m = m} = record {
   sinks = (omega arith, refl);
-  longC = refl;
+  long_C = refl;
   means = λ S k p f x pa fa g. record { j = k; x = x; given = g; since = since_refl C W top m; low = g.fuel; whole = refl };
 }
 
 -- what a turn does with what the question says
-abbrev onT : Setting → ℕ → ℕ → Form → Form → Obj → Meter → Out Obj
-onT S k i p f x m₂ = bind (by S k f x m₂) (λ y m₃. while_by (by S k) i p f y m₃)
+abbrev on_T : Setting → ℕ → ℕ → Form → Form → Obj → Meter → Out Obj
+on_T S k i p f x m₂ = bind (by S k f x m₂) (λ y m₃. while_by (by S k) i p f y m₃)
 
 -- a turn where a step is left
-turned : (j k : ℕ) (S : Setting) (p f : Form) (x : Obj) (n : Meter) → n.steps ≤ j → 0 < n.steps → (i : ℕ) × (n.steps ≤ suc i) × (while_by (by S k) j p f x n ≡ bind (by S k p x n) (λ b m₁. decide b m₁ (onT S k i p f x) (λ m₂. value x m₂)))
+turned : (j k : ℕ) (S : Setting) (p f : Form) (x : Obj) (n : Meter) → n.steps ≤ j → 0 < n.steps → (i : ℕ) × (n.steps ≤ suc i) × (while_by (by S k) j p f x n ≡ bind (by S k p x n) (λ b m₁. decide b m₁ (on_T S k i p f x) (λ m₂. value x m₂)))
 turned zero k S p f x n l h = absurd (omega arith)
 turned (suc i) k S p f x n l h = (i, l, refl)
 
@@ -54,26 +54,26 @@ dry : (k : ℕ) (S : Setting) (f : Form) (x : Obj) (m : Meter) → m.steps ≡ 0
 dry zero S f x m h = refl
 dry (suc k) S f x m h = ap (λ (s : ℕ). elim s [ zero ↦ spent no_step m | suc t ↦ inside (by S k) k one S.prog f x (record { steps = t; names = m.names; cells = m.cells }) ]) h
 
-stop_turn : (j k : ℕ) (S : Setting) (p f : Form) (x : Obj) (n n₁ : Meter) {a : ℕ} → n.steps ≤ j → ((onT onF : Meter → Out Obj) → Stopped (bind (by S k p x n) (λ b m₁. decide b m₁ onT onF)) a n₁) → Stopped (while_by (by S k) j p f x n) a n₁
+stop_turn : (j k : ℕ) (S : Setting) (p f : Form) (x : Obj) (n n₁ : Meter) {a : ℕ} → n.steps ≤ j → ((on_T on_F : Meter → Out Obj) → Stopped (bind (by S k p x n) (λ b m₁. decide b m₁ on_T on_F)) a n₁) → Stopped (while_by (by S k) j p f x n) a n₁
 stop_turn zero k S p f x n n₁ l s = stopped_eq (sym (ap (λ w. bind w (λ b m₁. decide b m₁ (λ m₂. value x m₂) (λ m₂. value x m₂))) (dry k S p x n (omega arith)))) (s (λ m₂. value x m₂) (λ m₂. value x m₂))
-stop_turn (suc i) k S p f x n n₁ l s = s (onT S k i p f x) (λ m₂. value x m₂)
+stop_turn (suc i) k S p f x n n₁ l s = s (on_T S k i p f x) (λ m₂. value x m₂)
 
 pub repeat_stop : {F Cs Ws C W C₁ W₁ : List ℕ} {top h a : ℕ} {v₀ v : Val} {m n n₁ : Meter} {r : Asked} → Repeating F Cs Ws top h v₀ m C W v n → Questioned F C W top h v n r C₁ W₁ → r ≡ AskStop a n₁ → Repeated F Cs Ws top h v₀ m (Stop a n₁) C₁ W₁
 repeat_stop {n = n} {n₁} c b e = record {
   sinks = tt;
   means = λ S k p f x pa fa g. let t = c.means S k p f x pa fa g in
-      ends-stop (stopped_eq t.whole (stop_turn t.j k S p f t.x n n₁ t.low (on_stop S k b e pa t.given)));
+      ends_stop (stopped_eq t.whole (stop_turn t.j k S p f t.x n n₁ t.low (on_stop S k b e pa t.given)));
 }
 
 pub repeat_done : {F Cs Ws C W C₁ W₁ : List ℕ} {top h z : ℕ} {v₀ v : Val} {m n n₁ : Meter} {r : Asked} → Repeating F Cs Ws top h v₀ m C W v n → Questioned F C W top h v n r C₁ W₁ → r ≡ Says z n₁ → z ≡ 0 → Repeated F Cs Ws top h v₀ m (Done v n₁) C₁ W₁
 repeat_done {v = v} {n = n} {n₁} c b e y = record {
-  sinks = (omega (arith, says-fell b e, c.sinks.0), says-names b e ∙ c.sinks.1);
+  sinks = (omega (arith, says_fell b e, c.sinks.0), says_names b e ∙ c.sinks.1);
   means = λ S k p f x pa fa g. let t = c.means S k p f x pa fa g in
       let u = on_no S k b e y pa t.given in
-      let w = turned t.j k S p f t.x n t.low (omega (arith, says-fell b e)) in
+      let w = turned t.j k S p f t.x n t.low (omega (arith, says_fell b e)) in
       let s = since_trans t.since (since u.done) in
-      let a = given-again t.given (says-fell b e) u.done in
-      ends-done {v = v} {m' = n₁} (record { obj = t.x; is = t.whole ∙ w.2 ∙ decided_no (onT S k w.0 p f t.x) (λ m₂. value t.x m₂) u; made = record { rep = a.arg; same = s.same; room = a.room; fewer = s.fewer; long = s.long }; ring = a.ring; kept = s.kept });
+      let a = given_again t.given (says_fell b e) u.done in
+      ends_done {v = v} {m' = n₁} (record { obj = t.x; is = t.whole ∙ w.2 ∙ decided_no (on_T S k w.0 p f t.x) (λ m₂. value t.x m₂) u; made = record { rep = a.arg; same = s.same; room = a.room; fewer = s.fewer; long = s.long }; ring = a.ring; kept = s.kept });
 }
 
 -- the question said T, and then f
@@ -85,34 +85,34 @@ module _ {F Cs Ws C W C₁ W₁ C₂ W₂ : List ℕ} {top h g z : ℕ} {v₀ v 
         sinks = tt;
         means = λ S k p f x pa fa gv. let t = c.means S k p f x pa fa gv in
             let u = on_yes S k b e y pa t.given in
-            let w = turned t.j k S p f t.x n t.low (omega (arith, says-fell b e)) in
-            let s = gave_stop (d.means S k f t.x (rw q fa) (given-again t.given (says-fell b e) u.done)) in
-            ends-stop (stopped_eq (t.whole ∙ w.2 ∙ decided_yes (onT S k w.0 p f t.x) (λ m₂. value t.x m₂) u) (stopped_bind (λ y m₃. while_by (by S k) w.0 p f y m₃) s));
+            let w = turned t.j k S p f t.x n t.low (omega (arith, says_fell b e)) in
+            let s = gave_stop (d.means S k f t.x (rw q fa) (given_again t.given (says_fell b e) u.done)) in
+            ends_stop (stopped_eq (t.whole ∙ w.2 ∙ decided_yes (on_T S k w.0 p f t.x) (λ m₂. value t.x m₂) u) (stopped_bind (λ y m₃. while_by (by S k) w.0 p f y m₃) s));
       }
 
   pub repeat_less : {y₂ : Val} {n₂ : Meter} → r₂ ≡ Done y₂ n₂ → n₂.steps < n.steps
-  repeat_less e2 = omega (arith, says-fell b e, fell_by ap2 e2)
+  repeat_less e2 = omega (arith, says_fell b e, fell_by ap2 e2)
 
   pub repeat_next : {y₂ : Val} {n₂ : Meter} → r₂ ≡ Done y₂ n₂ → length C₁ ≡ length C → length C₂ ≡ length C₁ → Repeating F Cs Ws top h v₀ m C₂ W₂ y₂ n₂
   repeat_next {n₂ = n₂} e2 l1 l2 =
       let d = applied_as e2 ap2 in
       record {
-        sinks = (omega (arith, says-fell b e, d.falls.0, c.sinks.0), d.falls.1 ∙ says-names b e ∙ c.sinks.1);
-        longC = l2 ∙ l1 ∙ c.longC;
+        sinks = (omega (arith, says_fell b e, d.falls.0, c.sinks.0), d.falls.1 ∙ says_names b e ∙ c.sinks.1);
+        long_C = l2 ∙ l1 ∙ c.long_C;
         means = λ S k p f x pa fa gv. let t = c.means S k p f x pa fa gv in
             let u = on_yes S k b e y pa t.given in
-            let w = turned t.j k S p f t.x n t.low (omega (arith, says-fell b e)) in
-            let ga = given-again t.given (says-fell b e) u.done in
+            let w = turned t.j k S p f t.x n t.low (omega (arith, says_fell b e)) in
+            let ga = given_again t.given (says_fell b e) u.done in
             let s = gave (d.means S k f t.x (rw q fa) ga) in
             record {
               j = w.0;
               x = s.obj;
-              given = given-value ga d.falls.0 s;
+              given = given_value ga d.falls.0 s;
               since = since_trans t.since (since_trans (since u.done) (since s));
-              low = omega (arith, w.1, says-fell b e, d.falls.0);
-              whole = t.whole ∙ w.2 ∙ decided_yes (onT S k w.0 p f t.x) (λ m₂. value t.x m₂) u ∙ ap (λ a. bind a (λ y m₃. while_by (by S k) w.0 p f y m₃)) s.is;
+              low = omega (arith, w.1, says_fell b e, d.falls.0);
+              whole = t.whole ∙ w.2 ∙ decided_yes (on_T S k w.0 p f t.x) (λ m₂. value t.x m₂) u ∙ ap (λ a. bind a (λ y m₃. while_by (by S k) w.0 p f y m₃)) s.is;
             };
       }
 
 pub below_turn : {F Cs Ws C W C₁ W₁ : List ℕ} {top h z : ℕ} {v₀ v : Val} {m n n₁ : Meter} {r : Asked} (t : ℕ) → Repeating F Cs Ws top h v₀ m C W v n → Questioned F C W top h v n r C₁ W₁ → r ≡ Says z n₁ → 5 * m.steps + 4 ≡ t → 5 * n₁.steps + 1 < t
-below_turn t c b e q = omega (arith, says-fell b e, c.sinks.0)
+below_turn t c b e q = omega (arith, says_fell b e, c.sinks.0)

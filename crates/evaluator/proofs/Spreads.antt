@@ -12,7 +12,7 @@ use Rattle.language.specs.Objects.{Objs, seq, length_of, nth_obj}
 use Rattle.language.specs.declared.Val.{Val}
 use Rattle.cells.specs.Cells.{Rep}
 use Rattle.cells.specs.Parts.{held_at, hold_at, Headed, Tailed, Nth, drop_objs}
-use Rattle.cells.proofs.Places.{drop-first}
+use Rattle.cells.proofs.Places.{drop_first}
 use Rattle.cells.proofs.Ring.{hold_length, hold_same, hold_other}
 use Rattle.evaluator.specs.Applying.{Spread}
 
@@ -27,10 +27,10 @@ along_start = record { most = omega arith; means = λ n xs u l r. r }
 
 -- the place that follows them, and what follows that
 along_here : {C : List ℕ} {v s x : Val} {k q : ℕ} (n : ℕ) (xs : Objs) → q ≤ k → Along C v k s q → Headed C s x → n < 4294967296 → k < length_of xs → Rep C n v (seq xs) → Rep C n x (nth_obj xs q)
-along_here {q = q} n xs h w t u l r = t.means n (nth_obj xs q) (drop_objs xs (suc q)) u (rw (drop-first xs q (omega arith)) at (w.means n xs u l r))
+along_here {q = q} n xs h w t u l r = t.means n (nth_obj xs q) (drop_objs xs (suc q)) u (rw (drop_first xs q (omega arith)) at (w.means n xs u l r))
 
 along_next : {C : List ℕ} {v s s₁ : Val} {k q : ℕ} → q < k → Along C v k s q → Tailed C s s₁ → Along C v k s₁ (q + 1)
-along_next {q = q} h w t = record { most = omega arith; means = λ n xs u l r. rw add-one (t.means n (nth_obj xs q) (drop_objs xs (suc q)) u (rw (drop-first xs q (omega arith)) at (w.means n xs u l r))) }
+along_next {q = q} h w t = record { most = omega arith; means = λ n xs u l r. rw add-one (t.means n (nth_obj xs q) (drop_objs xs (suc q)) u (rw (drop_first xs q (omega arith)) at (w.means n xs u l r))) }
 
 along_end : {C : List ℕ} {v s r : Val} {k q : ℕ} → k ≤ q → Along C v k s q → Headed C s r → Nth C v k r
 along_end {k = k} {q = q} h w t =

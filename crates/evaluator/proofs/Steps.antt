@@ -4,7 +4,7 @@ use native.Mathlib.Omega.{arith}
 use mathlib.Core.Path.{◌≡◌, refl, sym, ap, subst, ◌∙◌}
 use mathlib.Core.List.{List}
 use lib.ListN.{length}
-use Rattle.language.specs.Objects.{Obj, truth_of, isT, isF, neither}
+use Rattle.language.specs.Objects.{Obj, truth_of, is_T, is_F, neither}
 use Rattle.language.specs.Evaluation.{Out, bottom, bind, close, decide}
 use Rattle.language.specs.Charging.{step_charge, cells_charge, name_charge}
 use Rattle.language.specs.declared.Meter.{Meter}
@@ -13,11 +13,11 @@ use Rattle.language.specs.declared.Charge.TheVariants.{Granted}
 use Rattle.language.specs.declared.Val.{Val}
 use Rattle.language.proofs.Charging.{Left, step_granted, cells_granted, name_granted}
 use Rattle.cells.specs.Cells.{Rep, Same, Room, free}
-use Rattle.cells.proofs.Reps.{same_refl, same-trans, rep_ext}
+use Rattle.cells.proofs.Reps.{same_refl, same_trans, rep_ext}
 use Rattle.primitives.specs.declared.Ended.{Ended}
 use Rattle.primitives.specs.declared.Ended.TheVariants.{Done, Stop}
 use Rattle.primitives.specs.Ends.{Agree, Gives, Sinks}
-use Rattle.evaluator.specs.Ring.{RingKept, Finished, Stopped, fell, ran_out, Ends, ends-done, ends-stop}
+use Rattle.evaluator.specs.Ring.{RingKept, Finished, Stopped, fell, ran_out, Ends, ends_done, ends_stop}
 use Rattle.evaluator.specs.Applying.{Setting, Given, Applied, Falls}
 
 -- what a part of a run leaves of what stood before
@@ -38,7 +38,7 @@ since_refl C W top m = record { same = same_refl C (free C m); fewer = omega ari
 
 pub since_trans : {C W C₁ W₁ C₂ W₂ : List ℕ} {top : ℕ} {m m₁ m₂ : Meter} → Since C W top m C₁ W₁ m₁ → Since C₁ W₁ top m₁ C₂ W₂ m₂ → Since C W top m C₂ W₂ m₂
 since_trans {C} {W} {C₁} {W₁} {C₂} {W₂} {top} {m} {m₁} {m₂} a b = record {
-  same = same-trans (free_up C C₁ m m₁ a.fewer a.long) a.same b.same;
+  same = same_trans (free_up C C₁ m m₁ a.fewer a.long) a.same b.same;
   fewer = omega (arith, a.fewer, b.fewer);
   long = b.long ∙ a.long;
   kept = record { keep = λ d h l. b.kept.keep d h (omega (arith, a.fewer, b.fewer)) ∙ a.kept.keep d h (omega (arith, a.fewer, b.fewer)) };
@@ -53,16 +53,16 @@ since_step C W top {m} {k} c = record { same = same_refl C (free C m); fewer = o
 
 -- ---- outcomes
 pub gave : {C W C₁ W₁ : List ℕ} {top : ℕ} {v : Val} {m m₁ : Meter} {e : Out Obj} → Ends C W top m e C₁ W₁ (Done v m₁) → Finished C W top m e v m₁ C₁ W₁
-gave (ends-done f) = f
+gave (ends_done f) = f
 
 pub gave_stop : {C W C₁ W₁ : List ℕ} {top n : ℕ} {m m₁ : Meter} {e : Out Obj} → Ends C W top m e C₁ W₁ (Stop n m₁) → Stopped e n m₁
-gave_stop (ends-stop f) = f
+gave_stop (ends_stop f) = f
 
 pub ends_since : {C W C₁ W₁ C₂ W₂ : List ℕ} {top : ℕ} {m m₁ : Meter} {e : Out Obj} {r : Ended} → Since C W top m C₁ W₁ m₁ → Ends C₁ W₁ top m₁ e C₂ W₂ r → Ends C W top m e C₂ W₂ r
-ends_since s (ends-stop g) = ends-stop g
-ends_since s (ends-done g) =
+ends_since s (ends_stop g) = ends_stop g
+ends_since s (ends_done g) =
     let t = since_trans s (since g) in
-    ends-done (record { obj = g.obj; is = g.is; made = record { rep = g.made.rep; same = t.same; room = g.made.room; fewer = t.fewer; long = t.long }; ring = g.ring; kept = t.kept })
+    ends_done (record { obj = g.obj; is = g.is; made = record { rep = g.made.rep; same = t.same; room = g.made.room; fewer = t.fewer; long = t.long }; ring = g.ring; kept = t.kept })
 
 pub ends_eq : {C W C₁ W₁ : List ℕ} {top : ℕ} {m : Meter} {e e' : Out Obj} {r : Ended} → e' ≡ e → Ends C W top m e C₁ W₁ r → Ends C W top m e' C₁ W₁ r
 ends_eq {C} {W} {C₁} {W₁} {top} {m} {r = r} q g = subst (λ u. Ends C W top m u C₁ W₁ r) (sym q) g
@@ -89,23 +89,23 @@ stopped_close d (ran_out e z a) = ran_out (ap (λ u. close d u) e) z (agree_name
 pub given_next : {F C W C₁ W₁ : List ℕ} {S : Setting} {k top : ℕ} {v u : Val} {m m₁ : Meter} {x y : Obj} → Given F S k C W m v x → m₁.steps ≤ m.steps → Since C W top m C₁ W₁ m₁ → Room C₁ m₁ → length W₁ ≡ 16384 → Rep C₁ (free C₁ m₁) u y → Given F S k C₁ W₁ m₁ u y
 given_next {C = C} {C₁ = C₁} {m = m} {m₁} g l s r w p =
     let z = free_up C C₁ m m₁ s.fewer s.long in
-    record { defs = g.defs; still = same-trans g.low g.still s.same; low = omega (arith, g.low); room = r; ring = w; fuel = omega (arith, g.fuel); arg = p }
+    record { defs = g.defs; still = same_trans g.low g.still s.same; low = omega (arith, g.low); room = r; ring = w; fuel = omega (arith, g.fuel); arg = p }
 
 -- the argument again, after a part of the run
-pub given-again : {F C W C₁ W₁ : List ℕ} {S : Setting} {k top : ℕ} {v u : Val} {m m₁ : Meter} {x : Obj} {e : Out Obj} → Given F S k C W m v x → m₁.steps < m.steps → Finished C W top m e u m₁ C₁ W₁ → Given F S k C₁ W₁ m₁ v x
-given-again {C = C} {C₁ = C₁} {m = m} {m₁} g l f = given_next g (omega arith) (since f) f.made.room f.ring (rep_ext f.made.same (free_up C C₁ m m₁ f.made.fewer f.made.long) g.arg)
+pub given_again : {F C W C₁ W₁ : List ℕ} {S : Setting} {k top : ℕ} {v u : Val} {m m₁ : Meter} {x : Obj} {e : Out Obj} → Given F S k C W m v x → m₁.steps < m.steps → Finished C W top m e u m₁ C₁ W₁ → Given F S k C₁ W₁ m₁ v x
+given_again {C = C} {C₁ = C₁} {m = m} {m₁} g l f = given_next g (omega arith) (since f) f.made.room f.ring (rep_ext f.made.same (free_up C C₁ m m₁ f.made.fewer f.made.long) g.arg)
 
 -- its value next
-pub given-value : {F C W C₁ W₁ : List ℕ} {S : Setting} {k top : ℕ} {v u : Val} {m m₁ : Meter} {x : Obj} {e : Out Obj} → Given F S k C W m v x → m₁.steps < m.steps → (f : Finished C W top m e u m₁ C₁ W₁) → Given F S k C₁ W₁ m₁ u f.obj
-given-value g l f = given_next g (omega arith) (since f) f.made.room f.ring f.made.rep
+pub given_value : {F C W C₁ W₁ : List ℕ} {S : Setting} {k top : ℕ} {v u : Val} {m m₁ : Meter} {x : Obj} {e : Out Obj} → Given F S k C W m v x → m₁.steps < m.steps → (f : Finished C W top m e u m₁ C₁ W₁) → Given F S k C₁ W₁ m₁ u f.obj
+given_value g l f = given_next g (omega arith) (since f) f.made.room f.ring f.made.rep
 
 -- another ring
-pub given-held : {F C W W₁ : List ℕ} {S : Setting} {k : ℕ} {v : Val} {m : Meter} {x : Obj} → Given F S k C W m v x → length W₁ ≡ 16384 → Given F S k C W₁ m v x
-given-held g w = record { defs = g.defs; still = g.still; low = g.low; room = g.room; ring = w; fuel = g.fuel; arg = g.arg }
+pub given_held : {F C W W₁ : List ℕ} {S : Setting} {k : ℕ} {v : Val} {m : Meter} {x : Obj} → Given F S k C W m v x → length W₁ ≡ 16384 → Given F S k C W₁ m v x
+given_held g w = record { defs = g.defs; still = g.still; low = g.low; room = g.room; ring = w; fuel = g.fuel; arg = g.arg }
 
 -- after a charge that takes no cell; k₁ is the fuel then
-pub given-charged : {F C W : List ℕ} {S : Setting} {k : ℕ} {v : Val} {m m₁ : Meter} {x : Obj} (s d k₁ : ℕ) → Left m m₁ s d 0 → k ≡ k₁ + s → Given F S k C W m v x → Given F S k₁ C W m₁ v x
-given-charged {C = C} {m = m} {m₁} s d k₁ c f g =
+pub given_charged : {F C W : List ℕ} {S : Setting} {k : ℕ} {v : Val} {m m₁ : Meter} {x : Obj} (s d k₁ : ℕ) → Left m m₁ s d 0 → k ≡ k₁ + s → Given F S k C W m v x → Given F S k₁ C W m₁ v x
+given_charged {C = C} {m = m} {m₁} s d k₁ c f g =
     let q : free C m₁ ≡ free C m = omega (arith, c.cells) in
     record { defs = g.defs; still = g.still; low = omega (arith, g.low); room = record { fits = omega (arith, c.cells, g.room.fits); small = g.room.small }; ring = g.ring; fuel = omega (arith, c.steps, g.fuel); arg = rw q g.arg }
 
@@ -117,24 +117,24 @@ few_cells r = (omega (arith, r.fits, r.small), omega (arith, r.fits, r.small))
 pub applied_as : {F C W C₁ W₁ : List ℕ} {top i : ℕ} {v : Val} {m : Meter} {r r' : Ended} → r ≡ r' → Applied F C W top i v m r C₁ W₁ → Applied F C W top i v m r' C₁ W₁
 applied_as {F} {C} {W} {C₁} {W₁} {top} {i} {v} {m} e a = subst (λ r. Applied F C W top i v m r C₁ W₁) e a
 
-pub sinks-after : (r : Ended) (m n : Meter) → Falls r n → (n.steps < m.steps) × (n.names ≡ m.names) → Sinks r m
-sinks-after (Done v k) m n f l = (omega (arith, f.0, l.0), f.1 ∙ l.1)
-sinks-after (Stop v k) m n f l = tt
+pub sinks_after : (r : Ended) (m n : Meter) → Falls r n → (n.steps < m.steps) × (n.names ≡ m.names) → Sinks r m
+sinks_after (Done v k) m n f l = (omega (arith, f.0, l.0), f.1 ∙ l.1)
+sinks_after (Stop v k) m n f l = tt
 
 pub sinks_le : (r : Ended) (m n : Meter) → Sinks r n → (n.steps ≤ m.steps) × (n.names ≡ m.names) → Sinks r m
 sinks_le (Done v k) m n f l = (omega (arith, f.0, l.0), f.1 ∙ l.1)
 sinks_le (Stop v k) m n f l = tt
 
 -- ---- questions
-module _ (b : Obj) (m : Meter) (onT onF : Meter → Out Obj) where
-  pub decide_true : truth_of b ≡ isT → decide b m onT onF ≡ onT m
-  decide_true e = ap (λ t. elim t [ isT ↦ onT m | isF ↦ onF m | neither ↦ bottom m ]) e
+module _ (b : Obj) (m : Meter) (on_T on_F : Meter → Out Obj) where
+  pub decide_true : truth_of b ≡ is_T → decide b m on_T on_F ≡ on_T m
+  decide_true e = ap (λ t. elim t [ is_T ↦ on_T m | is_F ↦ on_F m | neither ↦ bottom m ]) e
 
-  pub decide-false : truth_of b ≡ isF → decide b m onT onF ≡ onF m
-  decide-false e = ap (λ t. elim t [ isT ↦ onT m | isF ↦ onF m | neither ↦ bottom m ]) e
+  pub decide_false : truth_of b ≡ is_F → decide b m on_T on_F ≡ on_F m
+  decide_false e = ap (λ t. elim t [ is_T ↦ on_T m | is_F ↦ on_F m | neither ↦ bottom m ]) e
 
-  pub decide-none : truth_of b ≡ neither → decide b m onT onF ≡ bottom m
-  decide-none e = ap (λ t. elim t [ isT ↦ onT m | isF ↦ onF m | neither ↦ bottom m ]) e
+  pub decide_none : truth_of b ≡ neither → decide b m on_T on_F ≡ bottom m
+  decide_none e = ap (λ t. elim t [ is_T ↦ on_T m | is_F ↦ on_F m | neither ↦ bottom m ]) e
 
 -- ---- the measure falls: five times the steps, and 0 to 4 by how far a function is from `step`
 pub below_step : (m k : Meter) (t : ℕ) {ch : Charge} → ch ≡ step_charge m → ch ≡ Granted k → 5 * m.steps ≡ t → 5 * k.steps + 4 < t
@@ -143,8 +143,8 @@ below_step m k t a b e = omega (arith, (step_granted m (sym a ∙ b)).steps)
 pub below_open : (m k : Meter) (t : ℕ) {ch : Charge} → ch ≡ name_charge m → ch ≡ Granted k → 5 * m.steps + 4 ≡ t → 5 * k.steps + 1 < t
 below_open m k t a b e = omega (arith, (name_granted m (sym a ∙ b)).steps)
 
-pub below-taken : (m k : Meter) (t n r : ℕ) {ch : Charge} → 1 < r → ch ≡ cells_charge n m → ch ≡ Granted k → 5 * m.steps + r ≡ t → 5 * k.steps + 1 < t
-below-taken m k t n r z a b e = omega (arith, (cells_granted n m (sym a ∙ b)).steps)
+pub below_taken : (m k : Meter) (t n r : ℕ) {ch : Charge} → 1 < r → ch ≡ cells_charge n m → ch ≡ Granted k → 5 * m.steps + r ≡ t → 5 * k.steps + 1 < t
+below_taken m k t n r z a b e = omega (arith, (cells_granted n m (sym a ∙ b)).steps)
 
 pub fell_by : {F C W C₁ W₁ : List ℕ} {top i : ℕ} {v y : Val} {m k : Meter} {r : Ended} → Applied F C W top i v m r C₁ W₁ → r ≡ Done y k → k.steps < m.steps
 fell_by a e = (applied_as e a).falls.0

@@ -14,12 +14,12 @@ use Rattle.language.specs.declared.Val.{Val}
 use Rattle.language.proofs.Charging.{cells_asked, cells_granted, on_charge}
 use Rattle.cells.specs.Cells.{Rep, Same, Room, free, val_at}
 use Rattle.cells.specs.Parts.{held_at, hold_at, onto, Held, no_held, a_held, Gathered}
-use Rattle.cells.proofs.Reps.{same_refl, same-trans, rep_ext, free_is, free-room}
+use Rattle.cells.proofs.Reps.{same_refl, same_trans, rep_ext, free_is, free_room}
 use Rattle.cells.proofs.Ring.{hold_same, hold_other}
 use Rattle.primitives.specs.declared.Ended.{Ended}
 use Rattle.primitives.specs.declared.Ended.TheVariants.{Done, Stop}
-use Rattle.primitives.specs.Ends.{Gives, gives-value, gives-bottom, gives-spent}
-use Rattle.evaluator.specs.Ring.{RingKept, Finished, Stopped, fell, ran_out, Ends, ends-done, ends-stop}
+use Rattle.primitives.specs.Ends.{Gives, gives_value, gives_bottom, gives_spent}
+use Rattle.evaluator.specs.Ring.{RingKept, Finished, Stopped, fell, ran_out, Ends, ends_done, ends_stop}
 use Rattle.evaluator.specs.Applying.{Taken, Collected}
 use Rattle.primitives.proofs.Ending.{agree_self}
 use Rattle.evaluator.proofs.Steps.{free_up, kept_refl, ends_eq, gives_eq, stopped_eq, stopped_bind, few_cells}
@@ -32,8 +32,8 @@ held_same W t v i l e = ap (λ (j : ℕ). val_at (hold_at W t v) j) e ∙ hold_s
 place : (top q i : ℕ) → i < q → q ≤ i + 4096 → ((top + q) % 4096 + (4096 - (q - i))) % 4096 ≡ (top + i) % 4096
 place top q i l h = omega arith
 
-place-below : (top q d : ℕ) → 1 ≤ d → d + q ≤ 4096 → ((top + q) % 4096 + (4096 - (d + q))) % 4096 ≡ (top + (4096 - d)) % 4096
-place-below top q d l h = omega arith
+place_below : (top q d : ℕ) → 1 ≤ d → d + q ≤ 4096 → ((top + q) % 4096 + (4096 - (d + q))) % 4096 ≡ (top + (4096 - d)) % 4096
+place_below top q d l h = omega arith
 
 apart : (top q i : ℕ) → i < q → q < 4096 → ((top + i) % 4096 ≡ (top + q) % 4096 % 4096) → ⊥
 apart top q i l h e = omega arith
@@ -47,9 +47,9 @@ module _ {W W₁ : List ℕ} {n n₁ : ℕ} (top q : ℕ) (k : RingKept W W₁ (
   kept_before i l h z =
       ap (λ (j : ℕ). val_at W₁ j) (sym (place top q i l h)) ∙ k.keep (q - i) (omega arith) z ∙ ap (λ (j : ℕ). val_at W j) (place top q i l h)
 
-  pub kept-below : (d : ℕ) → 1 ≤ d → d + q ≤ 4096 → d + q + n ≤ 4096 + n₁ → held_at W₁ (top + (4096 - d)) ≡ held_at W (top + (4096 - d))
-  kept-below d l h z =
-      ap (λ (j : ℕ). val_at W₁ j) (sym (place-below top q d l h)) ∙ k.keep (d + q) (omega arith) z ∙ ap (λ (j : ℕ). val_at W j) (place-below top q d l h)
+  pub kept_below : (d : ℕ) → 1 ≤ d → d + q ≤ 4096 → d + q + n ≤ 4096 + n₁ → held_at W₁ (top + (4096 - d)) ≡ held_at W (top + (4096 - d))
+  kept_below d l h z =
+      ap (λ (j : ℕ). val_at W₁ j) (sym (place_below top q d l h)) ∙ k.keep (d + q) (omega arith) z ∙ ap (λ (j : ℕ). val_at W j) (place_below top q d l h)
 
 -- one waiting value more, at the ring's place of q: those before it are as they were
 held_on : {W W₁ C C₁ : List ℕ} {n n₁ f f₁ top : ℕ} (q : ℕ) (y : Val) {es : List Obj} → length es ≤ q → q + n ≤ 4096 + n₁ → q < 4096 → f ≤ f₁ → Same C C₁ f → RingKept W W₁ ((top + q) % 4096) n n₁ → Held W C f top es → Held (hold_at W₁ ((top + q) % 4096) y) C₁ f₁ top es
@@ -64,15 +64,15 @@ kept_on : {W₀ W W₁ : List ℕ} {a n n₁ top : ℕ} (q : ℕ) (y : Val) → 
 kept_on {W₀} {W} {W₁} {a} {n} {n₁} {top} q y la lb k l = record {
   keep = λ d h z.
       let q1 = hold_other W₁ ((top + q) % 4096) y (top + (4096 - d)) (apart_below top q d h (omega arith)) in
-      q1 ∙ kept-below top q l d h (omega arith) (omega arith) ∙ k.keep d h (omega arith);
+      q1 ∙ kept_below top q l d h (omega arith) (omega arith) ∙ k.keep d h (omega arith);
 }
 
 -- ---- values that wait: `es` wait, the last first, and `rest` makes what follows
-onto-more : (y : Obj) (es : List Obj) (u : Out Objs) → bind (bind u (λ ys m. value (y :: ys) m)) (λ ys m. value (onto es ys) m) ≡ bind u (λ ys m. value (onto (y ∷ es) ys) m)
+onto_more : (y : Obj) (es : List Obj) (u : Out Objs) → bind (bind u (λ ys m. value (y :: ys) m)) (λ ys m. value (onto es ys) m) ≡ bind u (λ ys m. value (onto (y ∷ es) ys) m)
 unfolding onto
-onto-more y es (value ys m) = refl
-onto-more y es (bottom m) = refl
-onto-more y es (spent w m) = refl
+onto_more y es (value ys m) = refl
+onto_more y es (bottom m) = refl
+onto_more y es (spent w m) = refl
 
 same_out : (u : Out Objs) → u ≡ bind u (λ ys m. value (onto [] ys) m)
 unfolding onto
@@ -98,7 +98,7 @@ wait_next {Cs} {C = C} {C₁ = C₁} {W₁ = W₁} {top} {y} {m} {n} {n₁} q on
     let v : Obj = u.obj in
     record {
       es = v ∷ b.es;
-      same = same-trans (free_up Cs C m n b.fewer b.long) b.same u.made.same;
+      same = same_trans (free_up Cs C m n b.fewer b.long) b.same u.made.same;
       fewer = omega (arith, u.made.fewer, b.fewer);
       long = u.made.long ∙ b.long;
       kept = kept_on q y b.fewer u.made.fewer b.kept u.kept;
@@ -106,28 +106,28 @@ wait_next {Cs} {C = C} {C₁ = C₁} {W₁ = W₁} {top} {y} {m} {n} {n₁} q on
           (rw (b.size, held_same W₁ ((top + q) % 4096) y (top + q) u.ring (omega arith)) u.made.rep)
           (held_on q y (omega (arith, b.size)) (omega (arith, u.made.fewer)) (omega (arith, u.made.fewer)) (free_up C C₁ n n₁ u.made.fewer u.made.long) u.made.same u.kept (b.held (omega (arith, u.made.fewer))));
       size = ap suc b.size ∙ omega arith;
-      whole = b.whole ∙ ap (λ c. bind (bind c (λ z k₁. bind (rest k₁) (λ zs k₂. value (z :: zs) k₂))) (λ ys m₁. value (onto b.es ys) m₁)) u.is ∙ onto-more v b.es (rest n₁);
+      whole = b.whole ∙ ap (λ c. bind (bind c (λ z k₁. bind (rest k₁) (λ zs k₂. value (z :: zs) k₂))) (λ ys m₁. value (onto b.es ys) m₁)) u.is ∙ onto_more v b.es (rest n₁);
     }
 
 pub wait_stop : {Cs Ws C W : List ℕ} {top a : ℕ} {m n n₁ : Meter} {all : Out Objs} (q : ℕ) (one : Meter → Out Obj) (rest : Meter → Out Objs) → Waiting Cs Ws top m all C W q n (λ k. bind (one k) (λ z k₁. bind (rest k₁) (λ zs k₂. value (z :: zs) k₂))) → Stopped (one n) a n₁ → Stopped (bind all gathered) a n₁
 wait_stop q one rest b e = stopped_bind gathered (stopped_eq b.whole (stopped_bind (λ ys m₁. value (onto b.es ys) m₁) (stopped_bind (λ z k₁. bind (rest k₁) (λ zs k₂. value (z :: zs) k₂)) e)))
 
 -- ---- what waits is collected
-pub length-onto : (es : List Obj) (ys : Objs) → length_of (onto es ys) ≡ length es + length_of ys
+pub length_onto : (es : List Obj) (ys : Objs) → length_of (onto es ys) ≡ length es + length_of ys
 unfolding onto
-length-onto [] ys = omega arith
-length-onto (x ∷ es) ys = length-onto es (x :: ys) ∙ omega arith
+length_onto [] ys = omega arith
+length_onto (x ∷ es) ys = length_onto es (x :: ys) ∙ omega arith
 
 gathered_by : (es : List Obj) (q : ℕ) (n : Meter) → length es ≡ q → gathered (onto es nil) n ≡ on_charge (cells_charge q n) no_cell (λ m₁. value (seq (onto es nil)) m₁)
 gathered_by es q n e =
-    let z : length_of (onto es nil) ≡ q = omega (arith, length-onto es nil) in
+    let z : length_of (onto es nil) ≡ q = omega (arith, length_onto es nil) in
     ap (λ (c : ℕ). ask_cells c n (λ m₁. value (seq (onto es nil)) m₁)) z ∙ cells_asked q n (λ m₁. value (seq (onto es nil)) m₁)
 
 pub collect_full : {C W : List ℕ} {top q : ℕ} {n k : Meter} {ch : Charge} → ch ≡ cells_charge q n → ch ≡ Spent k → Collected C W top q n (Stop 24 k) C
 collect_full {q = q} {n} {k} a b = record {
   sinks = tt;
   taken = tt;
-  means = λ es l h r. gives_eq (gathered_by es q n l ∙ ap (λ c. on_charge c no_cell (λ m₁. value (seq (onto es nil)) m₁)) (sym a ∙ b)) (gives-spent refl (agree_self k));
+  means = λ es l h r. gives_eq (gathered_by es q n l ∙ ap (λ c. on_charge c no_cell (λ m₁. value (seq (onto es nil)) m₁)) (sym a ∙ b)) (gives_spent refl (agree_self k));
 }
 
 pub collect_made : {C W C₁ : List ℕ} {top q p : ℕ} {v : Val} {n k : Meter} {ch : Charge} → p ≡ free C n % 4294967296 → ch ≡ cells_charge q n → ch ≡ Granted k → Gathered C W top q p v C₁ → length C₁ ≡ length C → Collected C W top q n (Done v k) C₁
@@ -139,21 +139,21 @@ collect_made {C} {C₁ = C₁} {q = q} {p} {v} {n} {k} pe a b g lc =
       means = λ es l h r.
           let w = free_is p r pe in
           let f = few_cells r in
-          let z = g.means es l (rw w (h (omega (arith, c.cells)))) (omega (arith, f.0, r.small, c.cells)) (omega (arith, free-room C n r, c.cells)) in
+          let z = g.means es l (rw w (h (omega (arith, c.cells)))) (omega (arith, f.0, r.small, c.cells)) (omega (arith, free_room C n r, c.cells)) in
           let s : p + q ≡ free C₁ k = omega (arith, c.cells, r.fits) in
           gives_eq (gathered_by es q n l ∙ ap (λ c. on_charge c no_cell (λ m₁. value (seq (onto es nil)) m₁)) (sym a ∙ b))
-          (gives-value (record { rep = rw s at z.0; same = rw w at z.1; room = record { fits = omega (arith, r.fits, c.cells); small = omega (arith, r.small) }; fewer = omega (arith, c.cells); long = lc }));
+          (gives_value (record { rep = rw s at z.0; same = rw w at z.1; room = record { fits = omega (arith, r.fits, c.cells); small = omega (arith, r.small) }; fewer = omega (arith, c.cells); long = lc }));
     }
 
 -- what `collect` does ends it
 collect_ends : {Cs Ws C W C₁ : List ℕ} {top : ℕ} {m : Meter} {e : Out Obj} (n : Meter) (q : ℕ) (r : Ended) → Same Cs C (free Cs m) → n.cells ≤ m.cells → length C ≡ length Cs → length W ≡ 16384 → RingKept Ws W top (m.cells + q) n.cells → Taken r n q → Gives C n C₁ e r → Ends Cs Ws top m e C₁ W r
-collect_ends n q (Stop a k) s l lc w kp t (gives-bottom z g) = ends-stop (fell refl z g)
-collect_ends n q (Stop a k) s l lc w kp t (gives-spent z g) = ends-stop (ran_out refl z g)
-collect_ends {Cs} {C = C} {m = m} n q (Done v k) s l lc w kp t (gives-value {x = x} g) =
-    ends-done {v = v} {m' = k} (record {
+collect_ends n q (Stop a k) s l lc w kp t (gives_bottom z g) = ends_stop (fell refl z g)
+collect_ends n q (Stop a k) s l lc w kp t (gives_spent z g) = ends_stop (ran_out refl z g)
+collect_ends {Cs} {C = C} {m = m} n q (Done v k) s l lc w kp t (gives_value {x = x} g) =
+    ends_done {v = v} {m' = k} (record {
       obj = x;
       is = refl;
-      made = record { rep = g.rep; same = same-trans (free_up Cs C m n l lc) s g.same; room = g.room; fewer = omega (arith, g.fewer); long = g.long ∙ lc };
+      made = record { rep = g.rep; same = same_trans (free_up Cs C m n l lc) s g.same; room = g.room; fewer = omega (arith, g.fewer); long = g.long ∙ lc };
       ring = w;
       kept = record { keep = λ d h z. kp.keep d h (omega (arith, t)) };
     })

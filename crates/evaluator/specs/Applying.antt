@@ -1,7 +1,7 @@
 -- What each function of the evaluator answers, by the definition of the metered run.
 use Rattle.std.specs.Prelude.{ℕ, zero, suc, ◌+◌, ◌-◌, ◌*◌, ◌≤◌, ◌<◌, ◌≡◌, List, [], ◌∷◌, length, get_or}
 use Rattle.std.proofs.Math.Option.{Option, some, none}
-use Rattle.language.specs.Objects.{Obj, seq, Objs, nil, ◌::◌, length_of, truth_of, isT, isF, nth_obj}
+use Rattle.language.specs.Objects.{Obj, seq, Objs, nil, ◌::◌, length_of, truth_of, is_T, is_F, nth_obj}
 use Rattle.language.specs.Forms.{Form, Forms, Prog, count, main_form, select, select_right}
 use Rattle.language.specs.Bytes.{bytes}
 use Rattle.language.specs.Numbers.{one, cell_limit, cell_table_size, form_table_size}
@@ -129,9 +129,9 @@ Lessens (AskStop n k) m = Unit {0}
 
 -- what a question says, where e is the outcome of its application
 pub data QuestionSays (C W : List ℕ) (top : ℕ) (m : Meter) (e : Out Obj) (C' W' : List ℕ) : Asked → Type 0 where
-  says_yes : {v : Val} {k : Meter} (u : Finished C W top m e v k C' W') → truth_of u.obj ≡ isT → QuestionSays C W top m e C' W' (Says 1 k)
-  says_no : {v : Val} {k : Meter} (u : Finished C W top m e v k C' W') → truth_of u.obj ≡ isF → QuestionSays C W top m e C' W' (Says 0 k)
-  says-stop : {n : ℕ} {k : Meter} → ((onT onF : Meter → Out Obj) → Stopped (bind e (λ b m₁. decide b m₁ onT onF)) n k) → QuestionSays C W top m e C' W' (AskStop n k)
+  says_yes : {v : Val} {k : Meter} (u : Finished C W top m e v k C' W') → truth_of u.obj ≡ is_T → QuestionSays C W top m e C' W' (Says 1 k)
+  says_no : {v : Val} {k : Meter} (u : Finished C W top m e v k C' W') → truth_of u.obj ≡ is_F → QuestionSays C W top m e C' W' (Says 0 k)
+  says_stop : {n : ℕ} {k : Meter} → ((on_T on_F : Meter → Out Obj) → Stopped (bind e (λ b m₁. decide b m₁ on_T on_F)) n k) → QuestionSays C W top m e C' W' (AskStop n k)
 
 -- the question at h
 pub record Questioned (F C W : List ℕ) (top h : ℕ) (v : Val) (m : Meter) (r : Asked) (C' W' : List ℕ) : Type 0 where

@@ -30,5 +30,5 @@ pub data Stopped {A : Type 0} (e : Out A) (n : ℕ) (m' : Meter) : Type 0 where
   ran_out : {w : Spent} {m : Meter} → e ≡ spent w m → n ≡ spent_number w → Agree m m' → Stopped e n m'
 
 pub data Ends (C W : List ℕ) (top : ℕ) (m : Meter) (e : Out Obj) (C' W' : List ℕ) : Ended → Type 0 where
-  ends-done : {v : Val} {m' : Meter} → Finished C W top m e v m' C' W' → Ends C W top m e C' W' (Done v m')
-  ends-stop : {n : ℕ} {m' : Meter} → Stopped e n m' → Ends C W top m e C' W' (Stop n m')
+  ends_done : {v : Val} {m' : Meter} → Finished C W top m e v m' C' W' → Ends C W top m e C' W' (Done v m')
+  ends_stop : {n : ℕ} {m' : Meter} → Stopped e n m' → Ends C W top m e C' W' (Stop n m')

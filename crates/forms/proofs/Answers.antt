@@ -11,9 +11,9 @@ use Rattle.language.specs.Tokens.{byte_at, place_from}
 use Rattle.language.specs.Judging.{refusal_of}
 use Rattle.language.specs.Reading.{Got, got, no, word_at, refused, mark, calls}
 use Rattle.theorems.proofs.Outcomes.{got_meets, place_on}
-use Rattle.theorems.proofs.Refusals.{Ends, mark-within, form-within, part-within, parts_within}
+use Rattle.theorems.proofs.Refusals.{Ends, mark_within, form_within, part_within, parts_within}
 use Rattle.cells.specs.Encoding.{val_of, cells_from}
-use Rattle.formtable.proofs.Lengths.{length-form, length-forms, length-constants, length_all_constants}
+use Rattle.formtable.proofs.Lengths.{length_form, length_forms, length_constants, length_all_constants}
 use Rattle.language.specs.declared.Val.{Val}
 use Rattle.objects.specs.declared.ObjectRead.{ObjectRead}
 use Rattle.objects.specs.declared.ObjectRead.TheVariants as O
@@ -29,8 +29,8 @@ use Rattle.forms.specs.declared.FormRead.TheVariants as F
 use Rattle.forms.specs.declared.FormsRead.{FormsRead}
 use Rattle.forms.specs.declared.FormsRead.TheVariants as S
 use Rattle.forms.specs.Readers.{part_at, form_at, parts_at}
-use Rattle.forms.specs.Readings.{Ready, Passed, Dotted, dot_read, no_dot, Separated, comma_read, bracket_read, neither-read, Marked, mark-read, mark-refused, Run, FormLaid, FormsLaid, ObjectMet, object-read, object-refused, FormMet, form-read, form-refused, FormsMet, forms-read, forms-refused}
-use Rattle.forms.proofs.Small.{Small, AllSmall, form_small, parts-small, part_small}
+use Rattle.forms.specs.Readings.{Ready, Passed, Dotted, dot_read, no_dot, Separated, comma_read, bracket_read, neither_read, Marked, mark_read, mark_refused, Run, FormLaid, FormsLaid, ObjectMet, object_read, object_refused, FormMet, form_read, form_refused, FormsMet, forms_read, forms_refused}
+use Rattle.forms.proofs.Small.{Small, AllSmall, form_small, parts_small, part_small}
 
 -- ---- what was got, and what was refused
 pub record GotForm (n c : ℕ) (t u : List ℕ) (x : Upto) (t' u' : List ℕ) (g : Got Form) : Type 0 where
@@ -52,70 +52,70 @@ pub record GotObject (c : ℕ) (u : List ℕ) (v : Val) (e d : ℕ) (u' : List �
 
 module _ {n c : ℕ} {t u t' u' : List ℕ} where
   pub form_got : {r : FormRead} {x : Upto} {g : Got Form} → FormMet n c t u r t' u' g → r ≡ F.Got x → GotForm n c t u x t' u' g
-  form_got {r} {x} (form-read {f = f} {x = y} h i l) q =
+  form_got {r} {x} (form_read {f = f} {x = y} h i l) q =
       let z : y ≡ x = cc in
       record { form = f; is = ap (λ (v : ℕ). got f v) (sym i ∙ ap (λ (w : Upto). w.next) z); laid = rw z at l }
-  form_got (form-refused h) q = absurd (let z : ◌≡◌ {A = ℕ} 0 1 = cc in omega arith)
+  form_got (form_refused h) q = absurd (let z : ◌≡◌ {A = ℕ} 0 1 = cc in omega arith)
 
   pub form_no : {r : FormRead} {k p : ℕ} {g : Got Form} → FormMet n c t u r t' u' g → r ≡ F.No k p → g ≡ no k p
-  form_no (form-read h i l) q = absurd (let z : ◌≡◌ {A = ℕ} 0 1 = cc in omega arith)
-  form_no (form-refused h) q = cc
+  form_no (form_read h i l) q = absurd (let z : ◌≡◌ {A = ℕ} 0 1 = cc in omega arith)
+  form_no (form_refused h) q = cc
 
   pub forms_got : {r : FormsRead} {x : Upto} {k : ℕ} {g : Got Forms} → FormsMet n c t u r t' u' g → r ≡ S.Got x k → GotForms n c t u x k t' u' g
-  forms_got {r} {x} {k} (forms-read {fs = fs} {k = j} {x = y} h i w l) q =
+  forms_got {r} {x} {k} (forms_read {fs = fs} {k = j} {x = y} h i w l) q =
       let z : y ≡ x = cc in
       let v : k ≡ j = cc in
       record { forms = fs; is = ap (λ (v : ℕ). got fs v) (sym i ∙ ap (λ (w : Upto). w.next) z); counted = v ∙ w; laid = rw z at l }
-  forms_got (forms-refused h) q = absurd (let z : ◌≡◌ {A = ℕ} 0 1 = cc in omega arith)
+  forms_got (forms_refused h) q = absurd (let z : ◌≡◌ {A = ℕ} 0 1 = cc in omega arith)
 
   pub forms_no : {r : FormsRead} {k p : ℕ} {g : Got Forms} → FormsMet n c t u r t' u' g → r ≡ S.No k p → g ≡ no k p
-  forms_no (forms-read h i w l) q = absurd (let z : ◌≡◌ {A = ℕ} 0 1 = cc in omega arith)
-  forms_no (forms-refused h) q = cc
+  forms_no (forms_read h i w l) q = absurd (let z : ◌≡◌ {A = ℕ} 0 1 = cc in omega arith)
+  forms_no (forms_refused h) q = cc
 
 module _ {c : ℕ} {u u' : List ℕ} where
   pub object_got : {r : ObjectRead} {v : Val} {e d : ℕ} {g : Got Obj} → ObjectMet c u r u' g → r ≡ O.Got v e d → GotObject c u v e d u' g
-  object_got {r} {v} {e} {d} (object-read {x = o} {e = e₁} {d = d₁} h l) q =
+  object_got {r} {v} {e} {d} (object_read {x = o} {e = e₁} {d = d₁} h l) q =
       let z : e₁ ≡ e = cc in
       let y : d₁ ≡ d = cc in
       record { object = o; is = ap (λ (w : ℕ). got o w) z; value = cc; laid = rw y at l }
-  object_got (object-refused h) q = absurd (let z : ◌≡◌ {A = ℕ} 0 1 = cc in omega arith)
+  object_got (object_refused h) q = absurd (let z : ◌≡◌ {A = ℕ} 0 1 = cc in omega arith)
 
   pub object_no : {r : ObjectRead} {k p : ℕ} {g : Got Obj} → ObjectMet c u r u' g → r ≡ O.No k p → g ≡ no k p
-  object_no (object-read h l) q = absurd (let z : ◌≡◌ {A = ℕ} 0 1 = cc in omega arith)
-  object_no (object-refused h) q = cc
+  object_no (object_read h l) q = absurd (let z : ◌≡◌ {A = ℕ} 0 1 = cc in omega arith)
+  object_no (object_refused h) q = cc
 
 -- a mark
 module _ {b : ℕ} {s : List ℕ} {at : ℕ} {r : MarkRead} where
   pub mark_got : {a : ℕ} {A : Type 0} (rest : ℕ → Got A) → Marked b s at r → r ≡ M.Got a → mark b s at rest ≡ rest a
   unfolding mark
-  mark_got {a} rest (mark-read h q) e =
+  mark_got {a} rest (mark_read h q) e =
       let z : place_from s at + 1 ≡ a = cc in
       rw (h, eq-eqb b b refl, z)
-  mark_got rest (mark-refused h q) e = absurd (let z : ◌≡◌ {A = ℕ} 0 1 = cc in omega arith)
+  mark_got rest (mark_refused h q) e = absurd (let z : ◌≡◌ {A = ℕ} 0 1 = cc in omega arith)
 
   pub mark_no : {k p : ℕ} {A : Type 0} (rest : ℕ → Got A) → Marked b s at r → r ≡ M.No k p → mark b s at rest ≡ no k p
   unfolding mark refused
-  mark_no rest (mark-read h q) e = absurd (let z : ◌≡◌ {A = ℕ} 0 1 = cc in omega arith)
-  mark_no {k} {p} rest (mark-refused h q) e =
+  mark_no rest (mark_read h q) e = absurd (let z : ◌≡◌ {A = ℕ} 0 1 = cc in omega arith)
+  mark_no {k} {p} rest (mark_refused h q) e =
       let z : place_from s at ≡ p = cc in
       let y : refusal_of (word_at s (place_from s at)) ≡ k = cc in
       rw (ne_eqb (byte_at s (place_from s at)) b h, y, z)
 
   -- a mark that was read is passed
   pub mark_passed : {a : ℕ} → 1 ≤ b → Marked b s at r → r ≡ M.Got a → (at + 1 ≤ a) × (a ≤ length s)
-  mark_passed {a} l (mark-read h q) e =
+  mark_passed {a} l (mark_read h q) e =
       let z : place_from s at + 1 ≡ a = cc in
       let o = place_on s at in
-      let w = mark-within s (place_from s at) b l (eq-eqb (byte_at s (place_from s at)) b h) in
+      let w = mark_within s (place_from s at) b l (eq-eqb (byte_at s (place_from s at)) b h) in
       (omega arith, omega arith)
-  mark_passed l (mark-refused h q) e = absurd (let z : ◌≡◌ {A = ℕ} 0 1 = cc in omega arith)
+  mark_passed l (mark_refused h q) e = absurd (let z : ◌≡◌ {A = ℕ} 0 1 = cc in omega arith)
 
 -- a dot
 pub dot_passed : {s : List ℕ} {at a : ℕ} {r : DotRead} → Dotted s at r → r ≡ D.Dot a → Passed s at a
 dot_passed {s} {at} {a} (dot_read h q) e =
     let z : place_from s at + 1 ≡ a = cc in
     let o = place_on s at in
-    let w = mark-within s (place_from s at) 46 (omega arith) (eq-eqb (byte_at s (place_from s at)) 46 h) in
+    let w = mark_within s (place_from s at) 46 (omega arith) (eq-eqb (byte_at s (place_from s at)) 46 h) in
     record { behind = omega arith; inside = omega arith }
 dot_passed (no_dot h q) e = absurd (let z : ◌≡◌ {A = ℕ} 0 1 = cc in omega arith)
 
@@ -124,10 +124,10 @@ pub comma_passed : {s : List ℕ} {at a : ℕ} {r : CommaRead} → Separated s a
 comma_passed {s} {at} {a} (comma_read h q) e =
     let z : place_from s at + 1 ≡ a = cc in
     let o = place_on s at in
-    let w = mark-within s (place_from s at) 44 (omega arith) (eq-eqb (byte_at s (place_from s at)) 44 h) in
+    let w = mark_within s (place_from s at) 44 (omega arith) (eq-eqb (byte_at s (place_from s at)) 44 h) in
     record { behind = omega arith; inside = omega arith }
 comma_passed (bracket_read h q) e = absurd (let z : ◌≡◌ {A = ℕ} 0 1 = cc in omega arith)
-comma_passed (neither-read g h q) e = absurd (let z : ◌≡◌ {A = ℕ} 0 1 = cc in omega arith)
+comma_passed (neither_read g h q) e = absurd (let z : ◌≡◌ {A = ℕ} 0 1 = cc in omega arith)
 
 -- ---- reading may go on behind what was read
 pub record After (s : List ℕ) (at : ℕ) (x : Upto) : Type 0 where
@@ -136,8 +136,8 @@ pub record After (s : List ℕ) (at : ℕ) (x : Upto) : Type 0 where
 
 after : {s : List ℕ} {at n c : ℕ} {t u t' u' : List ℕ} {x : Upto} {g : Got Form} → Ready s at n c → (y : GotForm n c t u x t' u' g) → Ends s at x.next → Small at y.form x.next → After s at x
 after {c = c} a y w q =
-    let i = length-form y.form c in
-    let j = length-constants y.form c in
+    let i = length_form y.form c in
+    let j = length_constants y.form c in
     let k = y.laid.records.ends in
     let l = y.laid.cells.ends in
     record {
@@ -147,7 +147,7 @@ after {c = c} a y w q =
 
 after_all : {s : List ℕ} {at n c k : ℕ} {t u t' u' : List ℕ} {x : Upto} {g : Got Forms} → Ready s at n c → (y : GotForms n c t u x k t' u' g) → Ends s at x.next → AllSmall at y.forms x.next → After s at x
 after_all {c = c} a y w q =
-    let i = length-forms y.forms c in
+    let i = length_forms y.forms c in
     let j = length_all_constants y.forms c in
     let k = y.laid.records.ends in
     let l = y.laid.cells.ends in
@@ -157,21 +157,21 @@ after_all {c = c} a y w q =
     }
 
 module _ {s : List ℕ} {at : ℕ} (room : ℕ) {n c : ℕ} {t u t' u' : List ℕ} {r : FormRead} {x : Upto} where
-  pub part-after : Ready s at n c → FormMet n c t u r t' u' (part_at s at room) → r ≡ F.Got x → After s at x
+  pub part_after : Ready s at n c → FormMet n c t u r t' u' (part_at s at room) → r ≡ F.Got x → After s at x
   unfolding part_at
-  part-after a m e =
+  part_after a m e =
       let y = form_got m e in
-      after a y (got_meets (part-within (calls s) s at room a.inside) y.is) (got_meets (part_small (calls s) s at room) y.is)
+      after a y (got_meets (part_within (calls s) s at room a.inside) y.is) (got_meets (part_small (calls s) s at room) y.is)
 
-  pub form-after : Ready s at n c → FormMet n c t u r t' u' (form_at s at room) → r ≡ F.Got x → After s at x
+  pub form_after : Ready s at n c → FormMet n c t u r t' u' (form_at s at room) → r ≡ F.Got x → After s at x
   unfolding form_at
-  form-after a m e =
+  form_after a m e =
       let y = form_got m e in
-      after a y (got_meets (form-within (calls s) s at room a.inside) y.is) (got_meets (form_small (calls s) s at room) y.is)
+      after a y (got_meets (form_within (calls s) s at room a.inside) y.is) (got_meets (form_small (calls s) s at room) y.is)
 
 module _ {s : List ℕ} {at : ℕ} (room : ℕ) {n c k : ℕ} {t u t' u' : List ℕ} {r : FormsRead} {x : Upto} where
-  pub parts-after : Ready s at n c → FormsMet n c t u r t' u' (parts_at s at room) → r ≡ S.Got x k → After s at x
+  pub parts_after : Ready s at n c → FormsMet n c t u r t' u' (parts_at s at room) → r ≡ S.Got x k → After s at x
   unfolding parts_at
-  parts-after a m e =
+  parts_after a m e =
       let y = forms_got m e in
-      after_all a y (got_meets (parts_within (calls s) s at room a.inside) y.is) (got_meets (parts-small (calls s) s at room) y.is)
+      after_all a y (got_meets (parts_within (calls s) s at room a.inside) y.is) (got_meets (parts_small (calls s) s at room) y.is)

@@ -57,8 +57,8 @@ module _ {n k q lo hi : ℕ} {t t₁ : List ℕ} where
       }
 
 -- ---- runs that move up
-pub length-shifted : (t : List ℕ) (from to : ℕ) → length (shifted t from to) ≡ length t
-length-shifted t from to = go (leb to from) refl (leb (to * 4 + 4) (length t)) refl
+pub length_shifted : (t : List ℕ) (from to : ℕ) → length (shifted t from to) ≡ length t
+length_shifted t from to = go (leb to from) refl (leb (to * 4 + 4) (length t)) refl
   where
     go : (x : Bool) → leb to from ≡ x → (y : Bool) → leb (to * 4 + 4) (length t) ≡ y → length (shifted t from to) ≡ length t
     go true e y f = ap length (shift_none t from to (leb-true to from e))
@@ -84,7 +84,7 @@ module _ {n m e k q lo hi : ℕ} {t t₁ t₂ t₃ t₄ a b : List ℕ} where
       let i = x.ends in
       let j = y.ends in
       let l₁ = x.long in
-      let l₂ : length t₂ ≡ length t₁ = ap length s ∙ length-shifted t₁ n m in
+      let l₂ : length t₂ ≡ length t₁ = ap length s ∙ length_shifted t₁ n m in
       let l₃ = y.long in
       let c = length-append a b in
       record {

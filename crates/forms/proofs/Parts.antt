@@ -12,7 +12,7 @@ use Rattle.language.specs.declared.Val.{Val}
 use Rattle.language.specs.Objects.{Obj, int, symbol, seq}
 use Rattle.language.specs.Forms.{Form, insert, apply_all, bu, constant_cells}
 use Rattle.language.specs.Tokens.{byte_at}
-use Rattle.theorems.proofs.Refusals.{mark-within}
+use Rattle.theorems.proofs.Refusals.{mark_within}
 use Rattle.tables.specs.Tables.{record_put}
 use Rattle.lexer.specs.Readings.{Skipped}
 use Rattle.cells.specs.Encoding.{val_of, cells_from}
@@ -23,10 +23,10 @@ use Rattle.forms.specs.declared.Upto.{Upto}
 use Rattle.forms.specs.declared.FormRead.{FormRead}
 use Rattle.forms.specs.declared.FormRead.TheVariants as F
 use Rattle.forms.specs.Readers.{part_at, constant_read, prefix_form, prefix_at, construct_at, bound_at, bu_at, round_at, is_opening}
-use Rattle.forms.specs.Readings.{Ready, Run, Laid, ObjectMet, FormMet, form-read, form-refused, BuPut, PlainMet}
+use Rattle.forms.specs.Readings.{Ready, Run, Laid, ObjectMet, FormMet, form_read, form_refused, BuPut, PlainMet}
 use Rattle.forms.proofs.Laying.{run_then, run_under, run_as}
-use Rattle.forms.proofs.Equations.{part-plain_is, part-deep_is, part-construct_is, part-constant_is, part-insert_is, part-apply_is, part_bu_is, part_round_is}
-use Rattle.forms.proofs.Answers.{form_got, form_no, object_got, object_no, part-after}
+use Rattle.forms.proofs.Equations.{part_plain_is, part_deep_is, part_construct_is, part_constant_is, part_insert_is, part_apply_is, part_bu_is, part_round_is}
+use Rattle.forms.proofs.Answers.{form_got, form_no, object_got, object_no, part_after}
 use Rattle.forms.proofs.Chains.{cells_at}
 
 -- ---- read_part
@@ -38,9 +38,9 @@ not-false : (o : Bool) → not o ≡ false → o ≡ true
 not-false true h = refl
 not-false false h = absurd (let z : ◌≡◌ {A = ℕ} 0 1 = cc in omega arith)
 
-opening-some : (b : ℕ) → is_opening b ≡ true → 1 ≤ b
-opening-some zero h = absurd (let z : ◌≡◌ {A = ℕ} 0 1 = cc in omega arith)
-opening-some (suc b) h = omega arith
+opening_some : (b : ℕ) → is_opening b ≡ true → 1 ≤ b
+opening_some zero h = absurd (let z : ◌≡◌ {A = ℕ} 0 1 = cc in omega arith)
+opening_some (suc b) h = omega arith
 
 -- of the marks that open only the `(` is left
 round_byte : (b : ℕ) → is_opening b ≡ true → (b ≡ 91 → ⊥) → (b ≡ 37 → ⊥) → (b ≡ 47 → ⊥) → (b ≡ 64 → ⊥) → (b ≡ 123 → ⊥) → b ≡ 40
@@ -48,27 +48,27 @@ round_byte b h o₁ o₂ o₃ o₄ o₅ = eqb-true b 40 (rw (ne_eqb b 91 o₁, n
 
 module _ (s : List ℕ) (at room : ℕ) {n c p b : ℕ} (a : Ready s at n c) (i : Skipped s at p) (h : b ≡ byte_at s p) where
   module _ {o : Bool} (g : o ≡ is_opening b) where
-    pub part-plain_out : {t t' u : List ℕ} {r : FormRead} → not o ≡ true → PlainMet s p n c t r t' → FormMet n c t u r t' u (part_at s at room)
-    part-plain_out {u = u} k m = rw (part-plain_is s at room p b a.inside i.is h (sym g ∙ not-true o k)) (m.means u)
+    pub part_plain_out : {t t' u : List ℕ} {r : FormRead} → not o ≡ true → PlainMet s p n c t r t' → FormMet n c t u r t' u (part_at s at room)
+    part_plain_out {u = u} k m = rw (part_plain_is s at room p b a.inside i.is h (sym g ∙ not-true o k)) (m.means u)
 
     module _ (k : not o ≡ false) where
       opens : is_opening b ≡ true
       opens = sym g ∙ not-false o k
 
-      pub part-deep : {t u t' u' : List ℕ} → room ≡ 0 → FormMet n c t u (F.No 7 p) t' u' (part_at s at room)
-      part-deep z = rw (part-deep_is s at room p b a.inside i.is h opens z) (form-refused refl)
+      pub part_deep : {t u t' u' : List ℕ} → room ≡ 0 → FormMet n c t u (F.No 7 p) t' u' (part_at s at room)
+      part_deep z = rw (part_deep_is s at room p b a.inside i.is h opens z) (form_refused refl)
 
       -- behind the mark
       pub part_ready : Ready s (p + 1) (n + 1) c
       part_ready =
-          let w = mark-within s p b (opening-some b opens) (eq-eqb (byte_at s p) b (sym h)) in
+          let w = mark_within s p b (opening_some b opens) (eq-eqb (byte_at s p) b (sym h)) in
           record { short = a.short; inside = w; forms = omega (arith, a.forms, i.low); cells = omega (arith, a.cells, i.low) }
 
       below : (q j : ℕ) → q ≤ 4 → 5 * (length s - at) ≡ j → 5 * (length s - (p + 1)) + q < j
       below q j l z = omega (arith, part_ready.inside, i.low)
 
-      pub construct-below : {j : ℕ} → 5 * (length s - at) ≡ j → 5 * (length s - (p + 1)) + 3 < j
-      construct-below {j} z = below 3 j (omega arith) z
+      pub construct_below : {j : ℕ} → 5 * (length s - at) ≡ j → 5 * (length s - (p + 1)) + 3 < j
+      construct_below {j} z = below 3 j (omega arith) z
 
       pub round_below : {j : ℕ} → 5 * (length s - at) ≡ j → 5 * (length s - (p + 1)) + 2 < j
       round_below {j} z = below 2 j (omega arith) z
@@ -80,17 +80,17 @@ module _ (s : List ℕ) (at room : ℕ) {n c p b : ℕ} (a : Ready s at n c) (i 
       part_round z o₁ o₂ o₃ o₄ o₅ m = rw (part_round_is s at room p b a.inside i.is h (omega arith) (round_byte b opens o₁ o₂ o₃ o₄ o₅)) m
 
   module _ {t u t' u' : List ℕ} {r : FormRead} (z : room ≡ 0 → ⊥) where
-    pub part-construct : b ≡ 91 → FormMet n c t u r t' u' (construct_at s (p + 1) (room - 1)) → FormMet n c t u r t' u' (part_at s at room)
-    part-construct e m = rw (part-construct_is s at room p b a.inside i.is h (omega arith) e) m
+    pub part_construct : b ≡ 91 → FormMet n c t u r t' u' (construct_at s (p + 1) (room - 1)) → FormMet n c t u r t' u' (part_at s at room)
+    part_construct e m = rw (part_construct_is s at room p b a.inside i.is h (omega arith) e) m
 
-    pub part-constant : b ≡ 37 → FormMet n c t u r t' u' (constant_read s (p + 1) (room - 1)) → FormMet n c t u r t' u' (part_at s at room)
-    part-constant e m = rw (part-constant_is s at room p b a.inside i.is h (omega arith) e) m
+    pub part_constant : b ≡ 37 → FormMet n c t u r t' u' (constant_read s (p + 1) (room - 1)) → FormMet n c t u r t' u' (part_at s at room)
+    part_constant e m = rw (part_constant_is s at room p b a.inside i.is h (omega arith) e) m
 
-    pub part-insert : b ≡ 47 → FormMet n c t u r t' u' (prefix_at 7 s (p + 1) (room - 1)) → FormMet n c t u r t' u' (part_at s at room)
-    part-insert e m = rw (part-insert_is s at room p b a.inside i.is h (omega arith) e) m
+    pub part_insert : b ≡ 47 → FormMet n c t u r t' u' (prefix_at 7 s (p + 1) (room - 1)) → FormMet n c t u r t' u' (part_at s at room)
+    part_insert e m = rw (part_insert_is s at room p b a.inside i.is h (omega arith) e) m
 
-    pub part-apply : b ≡ 64 → FormMet n c t u r t' u' (prefix_at 8 s (p + 1) (room - 1)) → FormMet n c t u r t' u' (part_at s at room)
-    part-apply e m = rw (part-apply_is s at room p b a.inside i.is h (omega arith) e) m
+    pub part_apply : b ≡ 64 → FormMet n c t u r t' u' (prefix_at 8 s (p + 1) (room - 1)) → FormMet n c t u r t' u' (part_at s at room)
+    part_apply e m = rw (part_apply_is s at room p b a.inside i.is h (omega arith) e) m
 
     pub part_bu : b ≡ 123 → FormMet n c t u r t' u' (bu_at s (p + 1) (room - 1)) → FormMet n c t u r t' u' (part_at s at room)
     part_bu e m = rw (part_bu_is s at room p b a.inside i.is h (omega arith) e) m
@@ -110,11 +110,11 @@ prefix_laid kind f {n} {c} {m} {d} {t} {u} {t₁} {u₁} {t₂} a b l e = go (eq
 module _ (kind : ℕ) (s : List ℕ) (at room : ℕ) {n c : ℕ} {t u t₁ u₁ : List ℕ} {r : FormRead} where
   pub prefix_stops : {k p : ℕ} {t' u' : List ℕ} → FormMet (n + 1) c t u r t₁ u₁ (part_at s at room) → r ≡ F.No k p → FormMet n c t u (F.No k p) t' u' (prefix_at kind s at room)
   unfolding prefix_at
-  prefix_stops m e = rw (form_no m e) (form-refused refl)
+  prefix_stops m e = rw (form_no m e) (form_refused refl)
 
   pub prefix_is : {x : Upto} {t₂ : List ℕ} → 7 ≤ kind → kind ≤ 8 → FormMet (n + 1) c t u r t₁ u₁ (part_at s at room) → r ≡ F.Got x → t₂ ≡ record_put t₁ n kind 1 0 0 → FormMet n c t u (F.Got x) t₂ u₁ (prefix_at kind s at room)
   unfolding prefix_at
-  prefix_is a b m e w = let y = form_got m e in rw y.is (form-read refl refl (prefix_laid kind y.form a b y.laid w))
+  prefix_is a b m e w = let y = form_got m e in rw y.is (form_read refl refl (prefix_laid kind y.form a b y.laid w))
 
 -- ---- read_bu
 pub tag_few : (c : ℕ) (x : Obj) → (val_of c x).tag < 4
@@ -133,16 +133,16 @@ bu_laid f x {c = c} {d = d} {v = v} l r h e =
 module _ (s : List ℕ) (at room n : ℕ) {c : ℕ} {t u t₁ u₁ : List ℕ} {r : FormRead} (m : FormMet (n + 1) c t u r t₁ u₁ (part_at s at room)) where
   pub bu_stops : {k p : ℕ} {t' u' : List ℕ} → r ≡ F.No k p → FormMet n c t u (F.No k p) t' u' (bu_at s at room)
   unfolding bu_at
-  bu_stops e = rw (form_no m e) (form-refused refl)
+  bu_stops e = rw (form_no m e) (form_refused refl)
 
   module _ {x : Upto} (e : r ≡ F.Got x) where
     pub bu_bound_requires : Ready s at (n + 1) c → Ready s x.next 0 x.cells
-    bu_bound_requires a = let w = part-after room a m e in let y = w.ready in record { short = y.short; inside = y.inside; forms = omega arith; cells = y.cells }
+    bu_bound_requires a = let w = part_after room a m e in let y = w.ready in record { short = y.short; inside = y.inside; forms = omega arith; cells = y.cells }
 
     module _ {q : ObjectRead} {u₂ : List ℕ} (k : ObjectMet x.cells u₁ q u₂ (bound_at s x.next room)) where
       pub bu_unbound : {j p : ℕ} {t' u' : List ℕ} → q ≡ O.No j p → FormMet n c t u (F.No j p) t' u' (bu_at s at room)
       unfolding bu_at
-      bu_unbound g = let y = form_got m e in rw (y.is, object_no k g) (form-refused refl)
+      bu_unbound g = let y = form_got m e in rw (y.is, object_no k g) (form_refused refl)
 
       module _ {v : Val} {next d : ℕ} (g : q ≡ O.Got v next d) where
         pub bu_put_requires : v.tag < 4
@@ -153,4 +153,4 @@ module _ (s : List ℕ) (at room n : ℕ) {c : ℕ} {t u t₁ u₁ : List ℕ} {
         bu_is w =
             let y = form_got m e in
             let o = object_got k g in
-            rw (y.is, o.is) (form-read w.is refl (bu_laid y.form o.object y.laid o.laid o.value w.table))
+            rw (y.is, o.is) (form_read w.is refl (bu_laid y.form o.object y.laid o.laid o.value w.table))

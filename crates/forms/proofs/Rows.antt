@@ -23,27 +23,27 @@ use Rattle.forms.specs.declared.FormRead.TheVariants as F
 use Rattle.forms.specs.declared.FormsRead.{FormsRead}
 use Rattle.forms.specs.declared.FormsRead.TheVariants as S
 use Rattle.forms.specs.Readers.{part_at, form_at, parts_at, forms_at, construct_at}
-use Rattle.forms.specs.Readings.{Ready, Dotted, Separated, Laid, FormMet, form-read, form-refused, FormsMet, forms-read, forms-refused}
+use Rattle.forms.specs.Readings.{Ready, Dotted, Separated, Laid, FormMet, form_read, form_refused, FormsMet, forms_read, forms_refused}
 use Rattle.forms.proofs.Laying.{run_none, run_then, run_under, run_as}
-use Rattle.forms.proofs.Equations.{parts_are, forms_are, last-part, next_part, last-form, next_form, other-form, then_got}
-use Rattle.forms.proofs.Answers.{GotForm, form_got, form_no, forms_got, forms_no, part-after, form-after, dot_passed, comma_passed}
+use Rattle.forms.proofs.Equations.{parts_are, forms_are, last_part, next_part, last_form, next_form, other_form, then_got}
+use Rattle.forms.proofs.Answers.{GotForm, form_got, form_no, forms_got, forms_no, part_after, form_after, dot_passed, comma_passed}
 
 -- the forms read so far from `from` on, k of them; reading goes on at `at`
-pub record Going (readAt : List ℕ → ℕ → ℕ → Got Forms) (s : List ℕ) (room from first cell : ℕ) (t₀ u₀ : List ℕ) (at n c k : ℕ) (t u : List ℕ) : Type 0 where
+pub record Going (read_at : List ℕ → ℕ → ℕ → Got Forms) (s : List ℕ) (room from first cell : ℕ) (t₀ u₀ : List ℕ) (at n c k : ℕ) (t u : List ℕ) : Type 0 where
   pub ready : Ready s at n c
   pub onward : from ≤ at
   pub few : k ≤ at
   pub read : Forms
-  pub is : readAt s from room ≡ and_then (readAt s at room) (λ gs e. got (read +& gs) e)
+  pub is : read_at s from room ≡ and_then (read_at s at room) (λ gs e. got (read +& gs) e)
   pub counted : k ≡ count read
   pub laid : Laid (encode_forms cell read) (constants_from_all cell read) first cell t₀ u₀ n c t u
 
-none-laid : {n c : ℕ} {t u : List ℕ} → Laid (encode_forms c stop) (constants_from_all c stop) n c t u n c t u
+none_laid : {n c : ℕ} {t u : List ℕ} → Laid (encode_forms c stop) (constants_from_all c stop) n c t u n c t u
 unfolding encode_form constants_from
-none-laid = record { records = run_none; cells = run_none }
+none_laid = record { records = run_none; cells = run_none }
 
-pub row_starts : (readAt : List ℕ → ℕ → ℕ → Got Forms) {s : List ℕ} {room from first cell : ℕ} {t u : List ℕ} → Ready s from first cell → Going readAt s room from first cell t u from first cell 0 t u
-row_starts readAt {s} {room} {from} a = record { ready = a; onward = omega arith; few = omega arith; read = stop; is = sym (then_got (readAt s from room)); counted = refl; laid = none-laid }
+pub row_starts : (read_at : List ℕ → ℕ → ℕ → Got Forms) {s : List ℕ} {room from first cell : ℕ} {t u : List ℕ} → Ready s from first cell → Going read_at s room from first cell t u from first cell 0 t u
+row_starts read_at {s} {room} {from} a = record { ready = a; onward = omega arith; few = omega arith; read = stop; is = sym (then_got (read_at s from room)); counted = refl; laid = none_laid }
 
 -- one more form behind those read so far
 rows_append : (fs : Forms) (f : Form) (gs : Forms) → (fs +& (f & stop)) +& gs ≡ fs +& (f & gs)
@@ -54,17 +54,17 @@ rows_then : (fs : Forms) (f : Form) (g : Got Forms) → and_then (and_then g (λ
 rows_then fs f (got gs e) = ap (λ (x : Forms). got x e) (sym (rows_append fs f gs))
 rows_then fs f (no n p) = refl
 
-more-laid : (fs : Forms) (f : Form) {n c m d e h : ℕ} {t u t₁ u₁ t₂ u₂ : List ℕ} → Laid (encode_forms c fs) (constants_from_all c fs) n c t u m d t₁ u₁ → Laid (encode_form d f) (constants_from d f) m d t₁ u₁ e h t₂ u₂
+more_laid : (fs : Forms) (f : Form) {n c m d e h : ℕ} {t u t₁ u₁ t₂ u₂ : List ℕ} → Laid (encode_forms c fs) (constants_from_all c fs) n c t u m d t₁ u₁ → Laid (encode_form d f) (constants_from d f) m d t₁ u₁ e h t₂ u₂
     → Laid (encode_forms c (fs +& (f & stop))) (constants_from_all c (fs +& (f & stop))) n c t u e h t₂ u₂
-more-laid fs f {c = c} {d = d} l w =
+more_laid fs f {c = c} {d = d} l w =
     let i = length_all_constants fs c in
     let z : d ≡ c + constant_cells_all fs = omega (arith, l.cells.ends) in
     let p : encode_forms c fs ++ encode_form d f ≡ encode_forms c (fs +& (f & stop)) = ap (λ (x : ℕ). encode_forms c fs ++ encode_form x f) z ∙ sym (forms_appended fs (f & stop) c ∙ ap (λ (x : List ℕ). encode_forms c fs ++ x) (one_form f (c + constant_cells_all fs))) in
     let q : constants_from_all c fs ++ constants_from d f ≡ constants_from_all c (fs +& (f & stop)) = ap (λ (x : ℕ). constants_from_all c fs ++ constants_from x f) z ∙ sym (constants_appended fs (f & stop) c ∙ ap (λ (x : List ℕ). constants_from_all c fs ++ x) (one_constants f (c + constant_cells_all fs))) in
     record { records = run_as p (run_then l.records w.records); cells = run_as q (run_then l.cells w.cells) }
 
-module _ (readAt : List ℕ → ℕ → ℕ → Got Forms) {s : List ℕ} {room from first cell : ℕ} {t₀ u₀ : List ℕ} {at n c k : ℕ} {t u t₁ u₁ : List ℕ} {x : Upto} {g : Got Form} (w : Going readAt s room from first cell t₀ u₀ at n c k t u) (y : GotForm n c t u x t₁ u₁ g) where
-  row_more : (a : ℕ) → readAt s at room ≡ and_then (readAt s a room) (λ gs e. got (y.form & gs) e) → Ready s a x.forms x.cells → at < a → Going readAt s room from first cell t₀ u₀ a x.forms x.cells (k + 1) t₁ u₁
+module _ (read_at : List ℕ → ℕ → ℕ → Got Forms) {s : List ℕ} {room from first cell : ℕ} {t₀ u₀ : List ℕ} {at n c k : ℕ} {t u t₁ u₁ : List ℕ} {x : Upto} {g : Got Form} (w : Going read_at s room from first cell t₀ u₀ at n c k t u) (y : GotForm n c t u x t₁ u₁ g) where
+  row_more : (a : ℕ) → read_at s at room ≡ and_then (read_at s a room) (λ gs e. got (y.form & gs) e) → Ready s a x.forms x.cells → at < a → Going read_at s room from first cell t₀ u₀ a x.forms x.cells (k + 1) t₁ u₁
   row_more a e r l =
       let i = count-append w.read (y.form & stop) in
       record {
@@ -72,109 +72,109 @@ module _ (readAt : List ℕ → ℕ → ℕ → Got Forms) {s : List ℕ} {room 
         onward = omega (arith, w.onward);
         few = omega (arith, w.few);
         read = w.read +& (y.form & stop);
-        is = w.is ∙ ap (λ (v : Got Forms). and_then v (λ gs e. got (w.read +& gs) e)) e ∙ rows_then w.read y.form (readAt s a room);
+        is = w.is ∙ ap (λ (v : Got Forms). and_then v (λ gs e. got (w.read +& gs) e)) e ∙ rows_then w.read y.form (read_at s a room);
         counted = omega (arith, w.counted);
-        laid = more-laid w.read y.form w.laid y.laid;
+        laid = more_laid w.read y.form w.laid y.laid;
       }
 
-  row_last : (e : ℕ) → readAt s at room ≡ got (y.form & stop) e → FormsMet first cell t₀ u₀ (S.Got (record { next = e; forms = x.forms; cells = x.cells }) (k + 1)) t₁ u₁ (readAt s from room)
+  row_last : (e : ℕ) → read_at s at room ≡ got (y.form & stop) e → FormsMet first cell t₀ u₀ (S.Got (record { next = e; forms = x.forms; cells = x.cells }) (k + 1)) t₁ u₁ (read_at s from room)
   row_last e h =
       let i = count-append w.read (y.form & stop) in
       rw (w.is ∙ ap (λ (v : Got Forms). and_then v (λ gs e. got (w.read +& gs) e)) h)
-      (forms-read {fs = w.read +& (y.form & stop)} refl refl (omega (arith, w.counted)) (more-laid w.read y.form w.laid y.laid))
+      (forms_read {fs = w.read +& (y.form & stop)} refl refl (omega (arith, w.counted)) (more_laid w.read y.form w.laid y.laid))
 
-row_no : (readAt : List ℕ → ℕ → ℕ → Got Forms) {s : List ℕ} {room from first cell : ℕ} {t₀ u₀ : List ℕ} {at n c k : ℕ} {t u t' u' : List ℕ} (w : Going readAt s room from first cell t₀ u₀ at n c k t u) (j p : ℕ) → readAt s at room ≡ no j p → FormsMet first cell t₀ u₀ (S.No j p) t' u' (readAt s from room)
-row_no readAt w j p h = rw (w.is ∙ ap (λ (v : Got Forms). and_then v (λ gs e. got (w.read +& gs) e)) h) (forms-refused refl)
+row_no : (read_at : List ℕ → ℕ → ℕ → Got Forms) {s : List ℕ} {room from first cell : ℕ} {t₀ u₀ : List ℕ} {at n c k : ℕ} {t u t' u' : List ℕ} (w : Going read_at s room from first cell t₀ u₀ at n c k t u) (j p : ℕ) → read_at s at room ≡ no j p → FormsMet first cell t₀ u₀ (S.No j p) t' u' (read_at s from room)
+row_no read_at w j p h = rw (w.is ∙ ap (λ (v : Got Forms). and_then v (λ gs e. got (w.read +& gs) e)) h) (forms_refused refl)
 
 -- ---- read_parts
 module _ (s : List ℕ) (room : ℕ) {from first cell at n c k : ℕ} {t₀ u₀ t u : List ℕ} (w : Going parts_at s room from first cell t₀ u₀ at n c k t u) where
   pub parts_below : {j : ℕ} → 5 * (length s - from) + 1 ≡ j → 5 * (length s - at) < j
   parts_below z = omega (arith, w.onward)
 
-  pub parts-count-fits : Fits w32 (k + 1)
-  parts-count-fits = record { fits = omega (arith, w.few, w.ready.inside, w.ready.short) }
+  pub parts_count_fits : Fits w32 (k + 1)
+  parts_count_fits = record { fits = omega (arith, w.few, w.ready.inside, w.ready.short) }
 
   module _ {t₁ u₁ : List ℕ} {r : FormRead} (m : FormMet n c t u r t₁ u₁ (part_at s at room)) where
     part_then : parts_at s at room ≡ and_then (part_at s at room) (λ f e. after_parts s f e (λ a. parts_at s a room))
     part_then = parts_are s at room w.ready.inside
 
-    pub parts-stop : {j p : ℕ} {t' u' : List ℕ} → r ≡ F.No j p → FormsMet first cell t₀ u₀ (S.No j p) t' u' (parts_at s from room)
-    parts-stop {j} {p} e = row_no parts_at w j p (part_then ∙ ap (λ (g : Got Form). and_then g (λ f e. after_parts s f e (λ a. parts_at s a room))) (form_no m e))
+    pub parts_stop : {j p : ℕ} {t' u' : List ℕ} → r ≡ F.No j p → FormsMet first cell t₀ u₀ (S.No j p) t' u' (parts_at s from room)
+    parts_stop {j} {p} e = row_no parts_at w j p (part_then ∙ ap (λ (g : Got Form). and_then g (λ f e. after_parts s f e (λ a. parts_at s a room))) (form_no m e))
 
     module _ {x : Upto} (e : r ≡ F.Got x) where
       pub parts_dot_requires : x.next ≤ length s
-      parts_dot_requires = (part-after room w.ready m e).ready.inside
+      parts_dot_requires = (part_after room w.ready m e).ready.inside
 
-      part-here : parts_at s at room ≡ after_parts s (form_got m e).form x.next (λ a. parts_at s a room)
-      part-here = part_then ∙ ap (λ (g : Got Form). and_then g (λ f e. after_parts s f e (λ a. parts_at s a room))) (form_got m e).is
+      part_here : parts_at s at room ≡ after_parts s (form_got m e).form x.next (λ a. parts_at s a room)
+      part_here = part_then ∙ ap (λ (g : Got Form). and_then g (λ f e. after_parts s f e (λ a. parts_at s a room))) (form_got m e).is
 
       module _ {q : DotRead} (i : Dotted s x.next q) where
         pub parts_last : q ≡ D.Nothing → FormsMet first cell t₀ u₀ (S.Got x (k + 1)) t₁ u₁ (parts_at s from room)
-        parts_last o = row_last parts_at w (form_got m e) x.next (part-here ∙ last-part s x.next (form_got m e).form (λ a. parts_at s a room) i o)
+        parts_last o = row_last parts_at w (form_got m e) x.next (part_here ∙ last_part s x.next (form_got m e).form (λ a. parts_at s a room) i o)
 
         module _ {a : ℕ} (o : q ≡ D.Dot a) where
           pub parts_next : Going parts_at s room from first cell t₀ u₀ a x.forms x.cells (k + 1) t₁ u₁
           parts_next =
-              let z = part-after room w.ready m e in
+              let z = part_after room w.ready m e in
               let v = dot_passed i o in
               let y = z.ready in
-              row_more parts_at w (form_got m e) a (part-here ∙ next_part s x.next (form_got m e).form (λ a. parts_at s a room) i o)
+              row_more parts_at w (form_got m e) a (part_here ∙ next_part s x.next (form_got m e).form (λ a. parts_at s a room) i o)
               (record { short = y.short; inside = v.inside; forms = omega (arith, y.forms, v.behind); cells = omega (arith, y.cells, v.behind) }) (omega (arith, z.behind, v.behind))
 
           pub parts_less : length s - a < length s - at
-          parts_less = let z = part-after room w.ready m e in let v = dot_passed i o in omega (arith, z.behind, v.behind, v.inside)
+          parts_less = let z = part_after room w.ready m e in let v = dot_passed i o in omega (arith, z.behind, v.behind, v.inside)
 
 -- ---- read_forms
 module _ (s : List ℕ) (room : ℕ) {from first cell at n c k : ℕ} {t₀ u₀ t u : List ℕ} (w : Going forms_at s room from first cell t₀ u₀ at n c k t u) where
-  pub forms-below : {j : ℕ} → 5 * (length s - from) + 2 ≡ j → 5 * (length s - at) + 1 < j
-  forms-below z = omega (arith, w.onward)
+  pub forms_below : {j : ℕ} → 5 * (length s - from) + 2 ≡ j → 5 * (length s - at) + 1 < j
+  forms_below z = omega (arith, w.onward)
 
-  pub forms-count-fits : Fits w32 (k + 1)
-  forms-count-fits = record { fits = omega (arith, w.few, w.ready.inside, w.ready.short) }
+  pub forms_count_fits : Fits w32 (k + 1)
+  forms_count_fits = record { fits = omega (arith, w.few, w.ready.inside, w.ready.short) }
 
   module _ {t₁ u₁ : List ℕ} {r : FormRead} (m : FormMet n c t u r t₁ u₁ (form_at s at room)) where
-    form-then : forms_at s at room ≡ and_then (form_at s at room) (λ f e. after_form s f e (λ a. forms_at s a room))
-    form-then = forms_are s at room w.ready.inside
+    form_then : forms_at s at room ≡ and_then (form_at s at room) (λ f e. after_form s f e (λ a. forms_at s a room))
+    form_then = forms_are s at room w.ready.inside
 
-    pub forms-stop : {j p : ℕ} {t' u' : List ℕ} → r ≡ F.No j p → FormsMet first cell t₀ u₀ (S.No j p) t' u' (forms_at s from room)
-    forms-stop {j} {p} e = row_no forms_at w j p (form-then ∙ ap (λ (g : Got Form). and_then g (λ f e. after_form s f e (λ a. forms_at s a room))) (form_no m e))
+    pub forms_stop : {j p : ℕ} {t' u' : List ℕ} → r ≡ F.No j p → FormsMet first cell t₀ u₀ (S.No j p) t' u' (forms_at s from room)
+    forms_stop {j} {p} e = row_no forms_at w j p (form_then ∙ ap (λ (g : Got Form). and_then g (λ f e. after_form s f e (λ a. forms_at s a room))) (form_no m e))
 
     module _ {x : Upto} (e : r ≡ F.Got x) where
       pub forms_comma_requires : x.next ≤ length s
-      forms_comma_requires = (form-after room w.ready m e).ready.inside
+      forms_comma_requires = (form_after room w.ready m e).ready.inside
 
-      form-here : forms_at s at room ≡ after_form s (form_got m e).form x.next (λ a. forms_at s a room)
-      form-here = form-then ∙ ap (λ (g : Got Form). and_then g (λ f e. after_form s f e (λ a. forms_at s a room))) (form_got m e).is
+      form_here : forms_at s at room ≡ after_form s (form_got m e).form x.next (λ a. forms_at s a room)
+      form_here = form_then ∙ ap (λ (g : Got Form). and_then g (λ f e. after_form s f e (λ a. forms_at s a room))) (form_got m e).is
 
       module _ {q : CommaRead} (i : Separated s x.next q) where
-        pub forms-last : {a : ℕ} → q ≡ C.Closed a → FormsMet first cell t₀ u₀ (S.Got (record { next = a; forms = x.forms; cells = x.cells }) (k + 1)) t₁ u₁ (forms_at s from room)
-        forms-last {a} o = row_last forms_at w (form_got m e) a (form-here ∙ last-form s x.next (form_got m e).form (λ a. forms_at s a room) i o)
+        pub forms_last : {a : ℕ} → q ≡ C.Closed a → FormsMet first cell t₀ u₀ (S.Got (record { next = a; forms = x.forms; cells = x.cells }) (k + 1)) t₁ u₁ (forms_at s from room)
+        forms_last {a} o = row_last forms_at w (form_got m e) a (form_here ∙ last_form s x.next (form_got m e).form (λ a. forms_at s a room) i o)
 
-        pub forms-other : {j p : ℕ} {t' u' : List ℕ} → q ≡ C.No j p → FormsMet first cell t₀ u₀ (S.No j p) t' u' (forms_at s from room)
-        forms-other {j} {p} o = row_no forms_at w j p (form-here ∙ other-form s x.next (form_got m e).form (λ a. forms_at s a room) i o)
+        pub forms_other : {j p : ℕ} {t' u' : List ℕ} → q ≡ C.No j p → FormsMet first cell t₀ u₀ (S.No j p) t' u' (forms_at s from room)
+        forms_other {j} {p} o = row_no forms_at w j p (form_here ∙ other_form s x.next (form_got m e).form (λ a. forms_at s a room) i o)
 
         module _ {a : ℕ} (o : q ≡ C.More a) where
           pub forms_next : Going forms_at s room from first cell t₀ u₀ a x.forms x.cells (k + 1) t₁ u₁
           forms_next =
-              let z = form-after room w.ready m e in
+              let z = form_after room w.ready m e in
               let v = comma_passed i o in
               let y = z.ready in
-              row_more forms_at w (form_got m e) a (form-here ∙ next_form s x.next (form_got m e).form (λ a. forms_at s a room) i o)
+              row_more forms_at w (form_got m e) a (form_here ∙ next_form s x.next (form_got m e).form (λ a. forms_at s a room) i o)
               (record { short = y.short; inside = v.inside; forms = omega (arith, y.forms, v.behind); cells = omega (arith, y.cells, v.behind) }) (omega (arith, z.behind, v.behind))
 
           pub forms_less : length s - a < length s - at
-          forms_less = let z = form-after room w.ready m e in let v = comma_passed i o in omega (arith, z.behind, v.behind, v.inside)
+          forms_less = let z = form_after room w.ready m e in let v = comma_passed i o in omega (arith, z.behind, v.behind, v.inside)
 
 -- ---- read_construct
-construct-laid : (fs : Forms) {n c k m d : ℕ} {t u t₁ u₁ t₂ : List ℕ} → Laid (encode_forms c fs) (constants_from_all c fs) (n + 1) c t u m d t₁ u₁ → k ≡ count fs → t₂ ≡ record_put t₁ n 6 k 0 0 → Laid (encode_form c (construct fs)) (constants_from c (construct fs)) n c t u m d t₂ u₁
+construct_laid : (fs : Forms) {n c k m d : ℕ} {t u t₁ u₁ t₂ : List ℕ} → Laid (encode_forms c fs) (constants_from_all c fs) (n + 1) c t u m d t₁ u₁ → k ≡ count fs → t₂ ≡ record_put t₁ n 6 k 0 0 → Laid (encode_form c (construct fs)) (constants_from c (construct fs)) n c t u m d t₂ u₁
 unfolding encode_form constants_from
-construct-laid fs l h e = record { records = run_under l.records (rw h at e); cells = l.cells }
+construct_laid fs l h e = record { records = run_under l.records (rw h at e); cells = l.cells }
 
 module _ (s : List ℕ) (at room : ℕ) {n c : ℕ} {t u t₁ u₁ : List ℕ} {r : FormsRead} where
   pub construct_stops : {j p : ℕ} {t' u' : List ℕ} → FormsMet (n + 1) c t u r t₁ u₁ (forms_at s at room) → r ≡ S.No j p → FormMet n c t u (F.No j p) t' u' (construct_at s at room)
   unfolding construct_at
-  construct_stops m e = rw (forms_no m e) (form-refused refl)
+  construct_stops m e = rw (forms_no m e) (form_refused refl)
 
   pub construct_is : {x : Upto} {k : ℕ} {t₂ : List ℕ} → FormsMet (n + 1) c t u r t₁ u₁ (forms_at s at room) → r ≡ S.Got x k → t₂ ≡ record_put t₁ n 6 k 0 0 → FormMet n c t u (F.Got x) t₂ u₁ (construct_at s at room)
   unfolding construct_at
-  construct_is m e w = let y = forms_got m e in rw y.is (form-read refl refl (construct-laid y.forms y.laid y.counted w))
+  construct_is m e w = let y = forms_got m e in rw y.is (form_read refl refl (construct_laid y.forms y.laid y.counted w))

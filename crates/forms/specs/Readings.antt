@@ -37,8 +37,8 @@ pub record Ready (s : List ℕ) (at n c : ℕ) : Type 0 where
 
 -- The mark b is next from `at` on, or what stands there is refused.
 pub data Marked (b : ℕ) (s : List ℕ) (at : ℕ) (r : MarkRead) : Type 0 where
-  mark-read : byte_at s (place_from s at) ≡ b → r ≡ M.Got (place_from s at + 1) → Marked b s at r
-  mark-refused : (byte_at s (place_from s at) ≡ b → ⊥) → r ≡ M.No (refusal_of (word_at s (place_from s at))) (place_from s at) → Marked b s at r
+  mark_read : byte_at s (place_from s at) ≡ b → r ≡ M.Got (place_from s at + 1) → Marked b s at r
+  mark_refused : (byte_at s (place_from s at) ≡ b → ⊥) → r ≡ M.No (refusal_of (word_at s (place_from s at))) (place_from s at) → Marked b s at r
 
 -- A dot is next from `at` on, or none is.
 pub data Dotted (s : List ℕ) (at : ℕ) (r : DotRead) : Type 0 where
@@ -49,7 +49,7 @@ pub data Dotted (s : List ℕ) (at : ℕ) (r : DotRead) : Type 0 where
 pub data Separated (s : List ℕ) (at : ℕ) (r : CommaRead) : Type 0 where
   comma_read : byte_at s (place_from s at) ≡ code "," → r ≡ C.More (place_from s at + 1) → Separated s at r
   bracket_read : byte_at s (place_from s at) ≡ code "]" → r ≡ C.Closed (place_from s at + 1) → Separated s at r
-  neither-read : (byte_at s (place_from s at) ≡ code "," → ⊥) → (byte_at s (place_from s at) ≡ code "]" → ⊥) → r ≡ C.No (refusal_of (word_at s (place_from s at))) (place_from s at) → Separated s at r
+  neither_read : (byte_at s (place_from s at) ≡ code "," → ⊥) → (byte_at s (place_from s at) ≡ code "]" → ⊥) → r ≡ C.No (refusal_of (word_at s (place_from s at))) (place_from s at) → Separated s at r
 
 -- what is read behind the first form f in `( )`, by the answer
 abbrev pub test_read : List ℕ → ℕ → Form → TestRead → Got Form
@@ -87,25 +87,25 @@ FormsLaid fs n c t u x t' u' = Laid (encode_forms c fs) (constants_from_all c fs
 
 -- an object's value, its cells from cell c on
 pub data ObjectMet (c : ℕ) (u : List ℕ) (r : ObjectRead) (u' : List ℕ) : Got Obj → Type 0 where
-  object-read : {x : Obj} {e d : ℕ} → r ≡ O.Got (val_of c x) e d → Run (cells_from c x) c u d u' → ObjectMet c u r u' (got x e)
-  object-refused : {k p : ℕ} → r ≡ O.No k p → ObjectMet c u r u' (no k p)
+  object_read : {x : Obj} {e d : ℕ} → r ≡ O.Got (val_of c x) e d → Run (cells_from c x) c u d u' → ObjectMet c u r u' (got x e)
+  object_refused : {k p : ℕ} → r ≡ O.No k p → ObjectMet c u r u' (no k p)
 
 -- a form, its records from record n on and its constants from cell c on; or the definition's refusal
 pub data FormMet (n c : ℕ) (t u : List ℕ) (r : FormRead) (t' u' : List ℕ) : Got Form → Type 0 where
-  form-read : {f : Form} {e : ℕ} {x : Upto} → r ≡ F.Got x → x.next ≡ e → FormLaid f n c t u x t' u' → FormMet n c t u r t' u' (got f e)
-  form-refused : {k p : ℕ} → r ≡ F.No k p → FormMet n c t u r t' u' (no k p)
+  form_read : {f : Form} {e : ℕ} {x : Upto} → r ≡ F.Got x → x.next ≡ e → FormLaid f n c t u x t' u' → FormMet n c t u r t' u' (got f e)
+  form_refused : {k p : ℕ} → r ≡ F.No k p → FormMet n c t u r t' u' (no k p)
 
 -- forms one behind the other, with their number
 pub data FormsMet (n c : ℕ) (t u : List ℕ) (r : FormsRead) (t' u' : List ℕ) : Got Forms → Type 0 where
-  forms-read : {fs : Forms} {e k : ℕ} {x : Upto} → r ≡ S.Got x k → x.next ≡ e → k ≡ count fs → FormsLaid fs n c t u x t' u' → FormsMet n c t u r t' u' (got fs e)
-  forms-refused : {k p : ℕ} → r ≡ S.No k p → FormsMet n c t u r t' u' (no k p)
+  forms_read : {fs : Forms} {e k : ℕ} {x : Upto} → r ≡ S.Got x k → x.next ≡ e → k ≡ count fs → FormsLaid fs n c t u x t' u' → FormsMet n c t u r t' u' (got fs e)
+  forms_refused : {k p : ℕ} → r ≡ S.No k p → FormsMet n c t u r t' u' (no k p)
 
 -- the two forms of a condition, one behind the other
 pub data BranchesMet (n c : ℕ) (t u : List ℕ) (r : FormRead) (t' u' : List ℕ) : Got Branches → Type 0 where
-  branches-read : {b : Branches} {e : ℕ} {x : Upto} → r ≡ F.Got x → x.next ≡ e
+  branches_read : {b : Branches} {e : ℕ} {x : Upto} → r ≡ F.Got x → x.next ≡ e
       → Laid (encode_form c b.yes ++ encode_form (c + constant_cells b.yes) b.no) (constants_from c b.yes ++ constants_from (c + constant_cells b.yes) b.no) n c t u x.forms x.cells t' u'
       → BranchesMet n c t u r t' u' (got b e)
-  branches-refused : {k p : ℕ} → r ≡ F.No k p → BranchesMet n c t u r t' u' (no k p)
+  branches_refused : {k p : ℕ} → r ≡ F.No k p → BranchesMet n c t u r t' u' (no k p)
 
 -- a record without parts was written
 pub record PlainPut (n c next kind word : ℕ) (t : List ℕ) (r : FormRead) (t' : List ℕ) : Type 0 where

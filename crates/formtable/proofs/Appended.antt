@@ -38,12 +38,12 @@ programs_appended (d ∷ P) Q c =
     let z : c + (constant_cells d.body + program_cells P) ≡ c + constant_cells d.body + program_cells P = omega arith in
     rw (z, append_assoc) (ap (λ (x : List ℕ). encode_form c d.body ++ x) (programs_appended P Q (c + constant_cells d.body)))
 
-pub program-constants_appended : (P Q : Prog) (c : ℕ) → program_constants c (P ++ Q) ≡ program_constants c P ++ program_constants (c + program_cells P) Q
+pub program_constants_appended : (P Q : Prog) (c : ℕ) → program_constants c (P ++ Q) ≡ program_constants c P ++ program_constants (c + program_cells P) Q
 unfolding program_constants
-program-constants_appended [] Q c = rw add-zero
-program-constants_appended (d ∷ P) Q c =
+program_constants_appended [] Q c = rw add-zero
+program_constants_appended (d ∷ P) Q c =
     let z : c + (constant_cells d.body + program_cells P) ≡ c + constant_cells d.body + program_cells P = omega arith in
-    rw (z, append_assoc) (ap (λ (x : List ℕ). constants_from c d.body ++ x) (program-constants_appended P Q (c + constant_cells d.body)))
+    rw (z, append_assoc) (ap (λ (x : List ℕ). constants_from c d.body ++ x) (program_constants_appended P Q (c + constant_cells d.body)))
 
 pub definitions_appended : (ds es : List Placed) (r : ℕ) → encode_definitions r (ds ++ es) ≡ encode_definitions r ds ++ encode_definitions (r + forms_of (program_of ds)) es
 unfolding encode_definitions

@@ -10,7 +10,7 @@ use borrow.Author.Tests.{eqb-true, eq-eqb, ne_eqb}
 use Rattle.language.specs.Bytes.{same_bytes}
 use Rattle.language.specs.Accepted.{IsName}
 use Rattle.packing.specs.Packing.{packed}
-use Rattle.language.proofs.Bytes.{same-bytes_is, same-bytes-refl}
+use Rattle.language.proofs.Bytes.{same_bytes_is, same_bytes_refl}
 use Rattle.tables.specs.Tables.{field}
 use Rattle.packing.proofs.Packed.{names_equal}
 use Rattle.formtable.specs.Encoding.{low_of, high_of, named}
@@ -30,24 +30,24 @@ halves_test false m n f g = go (eqb (low_of m) (low_of n)) (eqb (high_of m) (hig
     go false y p q = rw p
 
 module _ (v w : List ℕ) (i : IsName v) (j : IsName w) where
-  pub name-test : (eqb (low_of (packed v)) (low_of (packed w)) && eqb (high_of (packed v)) (high_of (packed w))) ≡ same_bytes v w
-  name-test =
+  pub name_test : (eqb (low_of (packed v)) (low_of (packed w)) && eqb (high_of (packed v)) (high_of (packed w))) ≡ same_bytes v w
+  name_test =
       halves_test (same_bytes v w) (packed v) (packed w)
-      (λ e. ap packed (same-bytes_is v w e))
-      (λ e. ap (λ (x : List ℕ). same_bytes v x) (sym (names_equal v w i j e)) ∙ same-bytes-refl v)
+      (λ e. ap packed (same_bytes_is v w e))
+      (λ e. ap (λ (x : List ℕ). same_bytes v x) (sym (names_equal v w i j e)) ∙ same_bytes_refl v)
 
   -- the same, with the names the other way round in the definition
-  pub name-test_back : (eqb (low_of (packed v)) (low_of (packed w)) && eqb (high_of (packed v)) (high_of (packed w))) ≡ same_bytes w v
-  name-test_back =
+  pub name_test_back : (eqb (low_of (packed v)) (low_of (packed w)) && eqb (high_of (packed v)) (high_of (packed w))) ≡ same_bytes w v
+  name_test_back =
       halves_test (same_bytes w v) (packed v) (packed w)
-      (λ e. ap packed (sym (same-bytes_is w v e)))
-      (λ e. ap (λ (x : List ℕ). same_bytes w x) (names_equal v w i j e) ∙ same-bytes-refl w)
+      (λ e. ap packed (sym (same_bytes_is w v e)))
+      (λ e. ap (λ (x : List ℕ). same_bytes w x) (names_equal v w i j e) ∙ same_bytes_refl w)
 
 -- ---- a definition's name, its two numbers compared one after the other
 pub name_no : (D : List ℕ) (d lo hi a : ℕ) → a ≡ get_or D (d * 4) 0 → (a ≡ lo → ⊥) → false ≡ named D d lo hi
 unfolding named
 name_no D d lo hi a e h = rw (ne_eqb (get_or D (d * 4) 0) lo (λ z. h (e ∙ z)))
 
-pub name-same : (D : List ℕ) (d lo hi a b : ℕ) → a ≡ get_or D (d * 4) 0 → a ≡ lo → b ≡ field D d 1 → eqb b hi ≡ named D d lo hi
+pub name_same : (D : List ℕ) (d lo hi a b : ℕ) → a ≡ get_or D (d * 4) 0 → a ≡ lo → b ≡ field D d 1 → eqb b hi ≡ named D d lo hi
 unfolding named
-name-same D d lo hi a b e h g = rw (eq-eqb (get_or D (d * 4) 0) lo (sym e ∙ h), g)
+name_same D d lo hi a b e h g = rw (eq-eqb (get_or D (d * 4) 0) lo (sym e ∙ h), g)

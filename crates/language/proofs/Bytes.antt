@@ -8,16 +8,16 @@ use lib.Dec.{eqb}
 use borrow.Author.Tests.{eqb-true, eq-eqb}
 use Rattle.language.specs.Bytes.{same_bytes}
 
-pub same-bytes_is : (a b : List ℕ) → same_bytes a b ≡ true → a ≡ b
-same-bytes_is [] [] e = refl
-same-bytes_is [] (y ∷ b) e = absurd (let z : ◌≡◌ {A = ℕ} 0 1 = cc in omega arith)
-same-bytes_is (x ∷ a) [] e = absurd (let z : ◌≡◌ {A = ℕ} 0 1 = cc in omega arith)
-same-bytes_is (x ∷ a) (y ∷ b) e = go (eqb x y) refl e (same-bytes_is a b)
+pub same_bytes_is : (a b : List ℕ) → same_bytes a b ≡ true → a ≡ b
+same_bytes_is [] [] e = refl
+same_bytes_is [] (y ∷ b) e = absurd (let z : ◌≡◌ {A = ℕ} 0 1 = cc in omega arith)
+same_bytes_is (x ∷ a) [] e = absurd (let z : ◌≡◌ {A = ℕ} 0 1 = cc in omega arith)
+same_bytes_is (x ∷ a) (y ∷ b) e = go (eqb x y) refl e (same_bytes_is a b)
   where
     go : (t : Bool) → eqb x y ≡ t → (t && same_bytes a b) ≡ true → (same_bytes a b ≡ true → a ≡ b) → Path (List ℕ) (x ∷ a) (y ∷ b)
     go true f g r = ap₂ ◌∷◌ (eqb-true x y f) (r g)
     go false f g r = absurd (let z : ◌≡◌ {A = ℕ} 0 1 = cc in omega arith)
 
-pub same-bytes-refl : (a : List ℕ) → same_bytes a a ≡ true
-same-bytes-refl [] = refl
-same-bytes-refl (x ∷ a) = rw (eq-eqb x x refl, same-bytes-refl a)
+pub same_bytes_refl : (a : List ℕ) → same_bytes a a ≡ true
+same_bytes_refl [] = refl
+same_bytes_refl (x ∷ a) = rw (eq-eqb x x refl, same_bytes_refl a)

@@ -45,8 +45,8 @@ name_asked m k = go m.names refl
     go (suc s) e = rw e
 
 -- Where as many names are open as after the name was taken, giving one back is the close.
-pub name-given : (d : ℕ) (m : Meter) → m.names + 1 ≡ d → name_given m ≡ with_names d m
-name-given d m e = rw e
+pub name_given_lem : (d : ℕ) (m : Meter) → m.names + 1 ≡ d → name_given m ≡ with_names d m
+name_given_lem d m e = rw e
 
 -- What is left of m, where k is left, s steps, d names and c cells were taken.
 pub record Left (m k : Meter) (s d c : ℕ) : Type 0 where
@@ -98,35 +98,35 @@ granted_else : (b : Bool) (m t : Meter) {k : Meter} → cond b (Spent m) (Grante
 granted_else true m t e = let z : ◌≡◌ {A = ℕ} 0 1 = cc in absurd (omega arith)
 granted_else false m t e = (refl, cc)
 
-spent-then : (b : Bool) (m t : Meter) {k : Meter} → cond b (Spent m) (Granted t) ≡ Spent k → (b ≡ true) × (m ≡ k)
-spent-then true m t e = (refl, cc)
-spent-then false m t e = let z : ◌≡◌ {A = ℕ} 0 1 = cc in absurd (omega arith)
+spent_then : (b : Bool) (m t : Meter) {k : Meter} → cond b (Spent m) (Granted t) ≡ Spent k → (b ≡ true) × (m ≡ k)
+spent_then true m t e = (refl, cc)
+spent_then false m t e = let z : ◌≡◌ {A = ℕ} 0 1 = cc in absurd (omega arith)
 
-spent-else : (b : Bool) (m t : Meter) {k : Meter} → cond b (Granted t) (Spent m) ≡ Spent k → (b ≡ false) × (m ≡ k)
-spent-else true m t e = let z : ◌≡◌ {A = ℕ} 0 1 = cc in absurd (omega arith)
-spent-else false m t e = (refl, cc)
+spent_else : (b : Bool) (m t : Meter) {k : Meter} → cond b (Granted t) (Spent m) ≡ Spent k → (b ≡ false) × (m ≡ k)
+spent_else true m t e = let z : ◌≡◌ {A = ℕ} 0 1 = cc in absurd (omega arith)
+spent_else false m t e = (refl, cc)
 
 pos_of : (n : ℕ) → (n ≡ 0 → ⊥) → n - 1 + 1 ≡ n
 pos_of n h = omega (arith, h)
 
 -- What each method answers in its two cases.
-pub step-refused : (m : Meter) → m.steps ≡ 0 → Spent m ≡ step_charge m
-step-refused m h = rw (step_tested m, eq-eqb m.steps 0 h)
+pub step_refused : (m : Meter) → m.steps ≡ 0 → Spent m ≡ step_charge m
+step_refused m h = rw (step_tested m, eq-eqb m.steps 0 h)
 
-pub step-taken : (m : Meter) → 1 ≤ m.steps → Granted (step_taken m) ≡ step_charge m
-step-taken m h = rw (step_tested m, ne_eqb m.steps 0 (λ e. omega arith))
+pub step_taken_lem : (m : Meter) → 1 ≤ m.steps → Granted (step_taken m) ≡ step_charge m
+step_taken_lem m h = rw (step_tested m, ne_eqb m.steps 0 (λ e. omega arith))
 
-pub cells-refused : (n : ℕ) (m : Meter) → m.cells < n → Spent m ≡ cells_charge n m
-cells-refused n m h = rw (cells_tested n m, lt-leb n m.cells h)
+pub cells_refused : (n : ℕ) (m : Meter) → m.cells < n → Spent m ≡ cells_charge n m
+cells_refused n m h = rw (cells_tested n m, lt-leb n m.cells h)
 
-pub cells-taken : (n : ℕ) (m : Meter) → n ≤ m.cells → Granted (cells_taken n m) ≡ cells_charge n m
-cells-taken n m h = rw (cells_tested n m, le-leb n m.cells h)
+pub cells_taken_lem : (n : ℕ) (m : Meter) → n ≤ m.cells → Granted (cells_taken n m) ≡ cells_charge n m
+cells_taken_lem n m h = rw (cells_tested n m, le-leb n m.cells h)
 
-pub name-refused : (m : Meter) → m.names ≡ 0 → Spent m ≡ name_charge m
-name-refused m h = rw (name_tested m, eq-eqb m.names 0 h)
+pub name_refused : (m : Meter) → m.names ≡ 0 → Spent m ≡ name_charge m
+name_refused m h = rw (name_tested m, eq-eqb m.names 0 h)
 
-pub name-taken : (m : Meter) → 1 ≤ m.names → Granted (name_taken m) ≡ name_charge m
-name-taken m h = rw (name_tested m, ne_eqb m.names 0 (λ e. omega arith))
+pub name_taken_lem : (m : Meter) → 1 ≤ m.names → Granted (name_taken m) ≡ name_charge m
+name_taken_lem m h = rw (name_tested m, ne_eqb m.names 0 (λ e. omega arith))
 
 pub step_granted : (m : Meter) {k : Meter} → step_charge m ≡ Granted k → Left m k 1 0 0
 step_granted m e =
@@ -144,8 +144,8 @@ name_granted m e =
     let g = granted_else (eqb m.names 0) m (name_taken m) (sym (name_tested m) ∙ e) in
     record { steps = rw (← g.1) (omega arith); names = rw (← g.1) (pos_of m.names (eqb-false m.names 0 g.0)); cells = rw (← g.1) (omega arith) }
 
-pub step-spent : (m : Meter) {k : Meter} → step_charge m ≡ Spent k → (m.steps ≡ 0) × (m ≡ k)
-step-spent m e = let g = spent-then (eqb m.steps 0) m (step_taken m) (sym (step_tested m) ∙ e) in (eqb-true m.steps 0 g.0, g.1)
+pub step_spent : (m : Meter) {k : Meter} → step_charge m ≡ Spent k → (m.steps ≡ 0) × (m ≡ k)
+step_spent m e = let g = spent_then (eqb m.steps 0) m (step_taken m) (sym (step_tested m) ∙ e) in (eqb-true m.steps 0 g.0, g.1)
 
-pub cells-spent : (n : ℕ) (m : Meter) {k : Meter} → cells_charge n m ≡ Spent k → (m.cells < n) × (m ≡ k)
-cells-spent n m e = let g = spent-else (leb n m.cells) m (cells_taken n m) (sym (cells_tested n m) ∙ e) in (leb-false n m.cells g.0, g.1)
+pub cells_spent : (n : ℕ) (m : Meter) {k : Meter} → cells_charge n m ≡ Spent k → (m.cells < n) × (m ≡ k)
+cells_spent n m e = let g = spent_else (leb n m.cells) m (cells_taken n m) (sym (cells_tested n m) ∙ e) in (leb-false n m.cells g.0, g.1)

@@ -59,9 +59,9 @@ objects =
     ∷ refuses "<<<<<<<<<<<<<<<<<<<<<<<<<<<<<<<<<x" 7 32
     ∷ []
 
-objects-read : map rewrite_object objects ≡ map (λ (c : Case). c.says) objects
+objects_read : map rewrite_object objects ≡ map (λ (c : Case). c.says) objects
 unfolding read_object read_obj at_end after_object inside_sequence opens mark refused refusal_of judge_atom judge_negative judge_integer value_from judge_word dash_size size_at size place_from span digits decimal write_integer write_obj
-objects-read = refl
+objects_read = refl
 
 abbrev rewrite_program : Case → Got (List ℕ)
 rewrite_program c = and_then (read_program (bytes c.text)) (λ P e. got (write_program P) e)
@@ -156,9 +156,9 @@ forms =
     ∷ ends "main=%" "<" (budget 1000001 9 9) 9 3 0 0 0 0 ∷ ends "main=%" "<" (budget 9 257 9) 9 4 0 0 0 0 ∷ ends "main=%" "<" (budget 9 9 4097) 9 5 0 0 0 0
     ∷ []
 
-forms-answer : map runs forms ≡ map (λ (r : RunCase). r.says) forms
+forms_answer : map runs forms ≡ map (λ (r : RunCase). r.says) forms
 unfolding run_call read_program read_definitions definition_at within_limits none_twice is_in read_form after_part after_parts after_form after_test read_object read_obj at_end after_object inside_sequence opens mark refused refusal_of judge_name judge_part word_form judge_selector judge_atom judge_negative judge_integer value_from judge_word dash_size size_at size place_from span digits decimal write_integer write_obj scan
-forms-answer = refl
+forms_answer = refl
 
 -- 25 and 26: the first byte from the left decides, 26 if the same byte
 abbrev deep : String
@@ -170,9 +170,9 @@ deep_case room n = ends deep "<>" (budget 100 8 40) room n 0 0 34 32
 abbrev deep_runs : List RunCase
 deep_runs = deep_case 64 26 ∷ deep_case 33 26 ∷ deep_case 32 26 ∷ deep_case 31 25 ∷ deep_case 0 25 ∷ []
 
-deep-answers : map runs deep_runs ≡ map (λ (r : RunCase). r.says) deep_runs
+deep_answers : map runs deep_runs ≡ map (λ (r : RunCase). r.says) deep_runs
 unfolding run_call read_program read_definitions definition_at within_limits none_twice is_in read_form after_part after_parts after_form after_test read_object read_obj at_end after_object inside_sequence opens mark refused refusal_of judge_name judge_part word_form judge_selector judge_atom judge_negative judge_integer value_from judge_word dash_size size_at size place_from span digits decimal write_integer write_obj scan
-deep-answers = refl
+deep_answers = refl
 
 -- Texts too long, and too many definitions.
 abbrev times : ℕ → List ℕ → List ℕ
@@ -224,9 +224,9 @@ law_cases =
     ∷ record { program = "f=a;"; law = 0; place = 0; says = answers 15 0 0 0 0 0 "" } ∷ record { program = "f=a;"; law = 12; place = 9; says = answers 15 0 0 0 0 0 "" } ∷ record { program = "f="; law = 12; place = 9; says = answers 6 2 1 0 0 0 "" }
     ∷ []
 
-laws-answer : map uses law_cases ≡ map (λ (r : LawCase). r.says) law_cases
+laws_answer : map uses law_cases ≡ map (λ (r : LawCase). r.says) law_cases
 unfolding law_call read_program read_definitions definition_at within_limits none_twice is_in read_form after_part after_parts after_form after_test read_obj after_object inside_sequence opens mark refused refusal_of judge_name judge_part word_form judge_selector judge_atom judge_negative judge_integer value_from judge_word dash_size size_at size place_from span digits decimal write_integer write_obj write_word write_form write_program
-laws-answer = refl
+laws_answer = refl
 
 -- A use whose written result would open a 33rd mark doesn't apply: behind 31 prefixes the new chain's bracket leaves no mark for `[`.
 abbrev deep_laws : List LawCase
@@ -235,9 +235,9 @@ deep_laws =
     ∷ applies "f=//////////////////////////////[a.h,b.h];" 3 30 "f=//////////////////////////////([a,b].h);" 42
     ∷ []
 
-deep-laws-answer : map uses deep_laws ≡ map (λ (r : LawCase). r.says) deep_laws
+deep_laws_answer : map uses deep_laws ≡ map (λ (r : LawCase). r.says) deep_laws
 unfolding law_call read_program read_definitions definition_at within_limits none_twice is_in read_form after_part after_parts after_form after_test read_obj after_object inside_sequence opens mark refused refusal_of judge_name judge_part word_form judge_selector judge_atom judge_negative judge_integer value_from judge_word dash_size size_at size place_from span digits decimal write_integer write_obj write_word write_form write_program
-deep-laws-answer = refl
+deep_laws_answer = refl
 
 -- ---- the simplifier
 

@@ -2,7 +2,7 @@
 use Rattle.std.specs.Prelude.{ℕ, zero, suc, ◌+◌, ◌-◌, true, false, List, [], ◌∷◌, leb}
 use Rattle.std.proofs.Math.Option.{Option, some, none}
 use Rattle.language.specs.Bytes.{same_bytes}
-use Rattle.language.specs.Objects.{Obj, int, symbol, seq, Objs, nil, ◌::◌, length_of, cells_of, truth_of, isT, isF, neither}
+use Rattle.language.specs.Objects.{Obj, int, symbol, seq, Objs, nil, ◌::◌, length_of, cells_of, truth_of, is_T, is_F, neither}
 use Rattle.language.specs.Forms.{Form, word, name, chain, construct, constant, insert, apply_all, bu, condition, while, Forms, stop, ◌&◌, Prog, program_cells, main_form}
 use Rattle.language.specs.Numbers.{Edition}
 use Rattle.language.specs.Meanings.{WordAnswer, falls, gives, meaning, pair}
@@ -100,7 +100,7 @@ insert_on ap f (seq (x :: xs)) m = insert_by ap f x xs m
 
 -- `(p->f;g)` and `(p?f)`: T, F, else bottom.
 abbrev pub decide : Obj → Meter → (Meter → Out Obj) → (Meter → Out Obj) → Out Obj
-decide b m onT onF = elim (truth_of b) [ isT ↦ onT m | isF ↦ onF m | neither ↦ bottom m ]
+decide b m on_T on_F = elim (truth_of b) [ is_T ↦ on_T m | is_F ↦ on_F m | neither ↦ bottom m ]
 
 -- While repeats p and f without a new application of itself. Each round takes a step or more, and j is at least the steps left.
 abbrev pub while_by : Apply → ℕ → Form → Form → Obj → Meter → Out Obj

@@ -2,7 +2,7 @@
 use Rattle.std.specs.Prelude.{ℕ, zero, suc, Bool, true, false, ◌&&◌, List, [], ◌∷◌}
 use Rattle.std.proofs.Math.Option.{Option, some, none}
 use Rattle.groundwork.specs.Options.{on_some, when}
-use Rattle.language.specs.Objects.{Obj, truth_of, isT, isF, neither}
+use Rattle.language.specs.Objects.{Obj, truth_of, is_T, is_F, neither}
 use Rattle.language.specs.Words.{Op}
 use Rattle.language.specs.Forms.{Form, word, name, chain, construct, constant, insert, apply_all, bu, condition, while, Forms, stop, ◌&◌, Word, select, select_right, op, ◌+&◌, count, same_form, is_among, as_word, as_chain, as_construct, as_constant, as_condition}
 use Rattle.language.specs.Meanings.{from_left, from_right}
@@ -133,7 +133,7 @@ rewrite4 c = on_condition c (λ ph fh gh. on_split ph (λ p h. on_ending_in h fh
 
 -- 9. `(%T->f;g)`: f. `(%F->f;g)`: g.
 abbrev pub rewrite9 : Form → Option Form
-rewrite9 c = on_condition c (λ p f g. on_constant p (λ x. elim (truth_of x) [ isT ↦ some f | isF ↦ some g | neither ↦ none ]))
+rewrite9 c = on_condition c (λ p f g. on_constant p (λ x. elim (truth_of x) [ is_T ↦ some f | is_F ↦ some g | neither ↦ none ]))
 
 -- 11. `(p->(p->f;g);h)`: `(p->f;h)`.
 abbrev pub rewrite11 : Form → Option Form

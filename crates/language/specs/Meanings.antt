@@ -4,7 +4,7 @@ use Rattle.std.proofs.Math.Option.{Option, some, none}
 use Rattle.std.specs.Int.Signed.{lt_z, quot_z}
 use Rattle.language.specs.Bytes.{same_bytes}
 use Rattle.language.specs.Numbers.{Edition, one, in_range}
-use Rattle.language.specs.Objects.{Obj, int, symbol, seq, Objs, nil, ◌::◌, length_of, ◌+++◌, nth_obj, truth, truth_of, isT, isF, neither}
+use Rattle.language.specs.Objects.{Obj, int, symbol, seq, Objs, nil, ◌::◌, length_of, ◌+++◌, nth_obj, truth, truth_of, is_T, is_F, neither}
 use Rattle.language.specs.Words.{Op, entry, cells_by}
 use Rattle.language.specs.Forms.{Word, select, select_right, op}
 
@@ -61,7 +61,7 @@ on_int (seq a) k = falls
 
 -- T and F only
 abbrev pub on_truth : Obj → (Bool → WordAnswer) → WordAnswer
-on_truth x k = elim (truth_of x) [ isT ↦ k true | isF ↦ k false | neither ↦ falls ]
+on_truth x k = elim (truth_of x) [ is_T ↦ k true | is_F ↦ k false | neither ↦ falls ]
 
 abbrev pub on_ints : Obj → (ℤ → ℤ → WordAnswer) → WordAnswer
 on_ints x k = on_pair x (λ a b. on_int a (λ i. on_int b (λ j. k i j)))

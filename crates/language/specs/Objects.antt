@@ -43,23 +43,23 @@ abbrev mutual
   cells_of_all (x :: xs) = suc (cells_of x + cells_of_all xs)
 
 -- The truth values are the symbols T and F.
-abbrev pub symbolT : Obj
-symbolT = symbol (bytes "T")
+abbrev pub symbol_T : Obj
+symbol_T = symbol (bytes "T")
 
-abbrev pub symbolF : Obj
-symbolF = symbol (bytes "F")
+abbrev pub symbol_F : Obj
+symbol_F = symbol (bytes "F")
 
 abbrev pub truth : Bool → Obj
-truth true = symbolT
-truth false = symbolF
+truth true = symbol_T
+truth false = symbol_F
 
 -- T, F, or anything else
 pub data Truth : Type 0 where
-  isT isF neither : Truth
+  is_T is_F neither : Truth
 
 abbrev pub truth_of : Obj → Truth
 truth_of (int a) = neither
-truth_of (symbol s) = elim (same_bytes s (bytes "T")) [ true ↦ isT | false ↦ elim (same_bytes s (bytes "F")) [ true ↦ isF | false ↦ neither ] ]
+truth_of (symbol s) = elim (same_bytes s (bytes "T")) [ true ↦ is_T | false ↦ elim (same_bytes s (bytes "F")) [ true ↦ is_F | false ↦ neither ] ]
 truth_of (seq xs) = neither
 
 -- Whether two objects are the same.

@@ -142,14 +142,14 @@ unfoldable mutual
       let construct' = opens p room (λ a. and_then (read_forms k s a (room - 1)) (λ fs e. got (construct fs) e)) in
       let constant' = opens p room (λ a. and_then (read_obj k s a (room - 1)) (λ x e. got (constant x) e)) in
       let insert' = opens p room (λ a. and_then (read_part k s a (room - 1)) (λ f e. got (insert f) e)) in
-      let applyAll' = opens p room (λ a. and_then (read_part k s a (room - 1)) (λ f e. got (apply_all f) e)) in
+      let apply_all' = opens p room (λ a. and_then (read_part k s a (room - 1)) (λ f e. got (apply_all f) e)) in
       let bu' = opens p room (λ a. and_then (read_part k s a (room - 1)) (λ f e. mark (code ",") s e (λ a. and_then (read_obj k s a (room - 1)) (λ x e. mark (code "}") s e (λ a. got (bu f x) a))))) in
       let round' = opens p room (λ a. and_then (read_form k s a (room - 1)) (λ f e. after_test s f e (λ a. read_form k s a (room - 1)))) in
       let plain' = as_judged s p (judge_part (word_at s p)) in
       cond (eqb b (code "[")) construct'
       (cond (eqb b (code "%")) constant'
       (cond (eqb b (code "/")) insert'
-      (cond (eqb b (code "@")) applyAll'
+      (cond (eqb b (code "@")) apply_all'
       (cond (eqb b (code "{")) bu'
       (cond (eqb b (code "(")) round'
       plain')))))

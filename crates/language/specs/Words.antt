@@ -8,11 +8,11 @@ pub data Op : Type 0 where
 
 -- How many cells a word asks for: by n, a length, and for the last rule by n rows of m.
 pub data CellRule : Type 0 where
-  no_cell one_Cell n_less_1 n_cells n_and_1 three_n m_and_m_times_n : CellRule
+  no_cell one_cell n_less_1 n_cells n_and_1 three_n m_and_m_times_n : CellRule
 
 abbrev pub cells_by : CellRule → (n m : ℕ) → ℕ
 cells_by no_cell n m = 0
-cells_by one_Cell n m = 1
+cells_by one_cell n m = 1
 cells_by n_less_1 n m = n - 1
 cells_by n_cells n m = n
 cells_by n_and_1 n m = n + 1
@@ -39,7 +39,7 @@ entry div = record { spelled = bytes "div"; rule = no_cell }
 entry and = record { spelled = bytes "and"; rule = no_cell }
 entry or = record { spelled = bytes "or"; rule = no_cell }
 entry not = record { spelled = bytes "not"; rule = no_cell }
-entry apndl = record { spelled = bytes "apndl"; rule = one_Cell }
+entry apndl = record { spelled = bytes "apndl"; rule = one_cell }
 entry tlr = record { spelled = bytes "tlr"; rule = n_less_1 }
 entry reverse = record { spelled = bytes "reverse"; rule = n_cells }
 entry rotl = record { spelled = bytes "rotl"; rule = n_cells }

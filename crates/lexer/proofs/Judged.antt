@@ -30,7 +30,7 @@ use Rattle.packing.specs.Packing.{packed}
 use Rattle.lexer.specs.Vocabulary.{code_of}
 use Rattle.lexer.specs.Judgements.{atom_judged, form_judged, part_judged, name_judged, judge_symbol, judge_plain, WordJudged}
 use Rattle.packing.proofs.Slices.{slice_first}
-use Rattle.lexer.proofs.Spans.{all_yes, all_no, slice-none}
+use Rattle.lexer.proofs.Spans.{all_yes, all_no, slice_none}
 use Rattle.lexer.proofs.Sizes.{within}
 use Rattle.lexer.proofs.Values.{value_grows}
 use Rattle.lexer.proofs.Words.{code_below, same_not}
@@ -49,9 +49,9 @@ module _ (class : Class) (s : List ℕ) (from to e : ℕ) (order : from ≤ to) 
 
 -- a word by its length and its class
 module _ (class : Class) (s : List ℕ) (from to : ℕ) (order : from ≤ to) (fits : to ≤ length s) where
-  pub word-long : 12 < to - from → WordJudged (judge_word (test_of class) (slice from to s)) (slice from to s) 9
+  pub word_long : 12 < to - from → WordJudged (judge_word (test_of class) (slice from to s)) (slice from to s) 9
   unfolding judge_word
-  word-long h = rw (lt-leb (length (slice from to s)) 12 (rw (length-slice from to s fits) h)) (refl, omega arith)
+  word_long h = rw (lt-leb (length (slice from to s)) 12 (rw (length-slice from to s fits) h)) (refl, omega arith)
 
   module _ {e : ℕ} (short : to - from ≤ 12) (spanned : Spanned class s from to e) where
     pub word_mixed : e < to → WordJudged (judge_word (test_of class) (slice from to s)) (slice from to s) 6
@@ -71,8 +71,8 @@ zero_few s from to fits h = go (slice from to s) (length-slice from to s fits)
     go (b ∷ []) e = refl
     go (b ∷ c ∷ w) e = absurd (omega arith)
 
-pub zero-first : (s : List ℕ) (from to : ℕ) → to ≤ length s → 2 ≤ to - from → eqb (get_or s from 0) 48 ≡ leading_zero (slice from to s)
-zero-first s from to fits h = rw (slice_first s from to (omega arith) fits, slice_first s (from + 1) to (omega arith) fits)
+pub zero_first : (s : List ℕ) (from to : ℕ) → to ≤ length s → 2 ≤ to - from → eqb (get_or s from 0) 48 ≡ leading_zero (slice from to s)
+zero_first s from to fits h = rw (slice_first s from to (omega arith) fits, slice_first s (from + 1) to (omega arith) fits)
 
 -- numbers without a sign
 module _ (s : List ℕ) (from to : ℕ) (order : from ≤ to) (fits : to ≤ length s) {e : ℕ} (spanned : Spanned Digit s from to e) where
@@ -103,9 +103,9 @@ negative_is w b ds e = rw e
 all_first : (P : ℕ → Bool) (w : List ℕ) (b : ℕ) (ds : List ℕ) → w ≡ b ∷ ds → all P w ≡ true → P b ≡ true
 all_first P w b ds e h = ((and-eq-true_iff (P b) (all P ds)).0 (rw e at h)).0
 
-value-some : (w : List ℕ) (b : ℕ) (ds : List ℕ) → w ≡ b ∷ ds → all is_digit w ≡ true → (b ≡ 48 → ⊥) → 1 ≤ value_of w
+value_some : (w : List ℕ) (b : ℕ) (ds : List ℕ) → w ≡ b ∷ ds → all is_digit w ≡ true → (b ≡ 48 → ⊥) → 1 ≤ value_of w
 unfolding value_from
-value-some w b ds e h n =
+value_some w b ds e h n =
     let d = ((and-eq-true_iff (leb 48 b) (leb b 57)).0 (all_first is_digit w b ds e h)).0 in
     let l = leb-true 48 b d in
     let m : 48 < b = le_not_eq b l n in
@@ -125,7 +125,7 @@ negative_over (suc n) h = rw (le-ltb n 2147483648 (omega arith))
 
 pub negative_none : (s : List ℕ) (from to : ℕ) → to ≤ length s → from ≡ to → A.Not 6 ≡ atom_judged (judge_negative (slice from to s))
 unfolding judge_negative
-negative_none s from to fits h = rw (slice-none s from to fits (omega arith))
+negative_none s from to fits h = rw (slice_none s from to fits (omega arith))
 
 module _ (s : List ℕ) (from to : ℕ) (order : from ≤ to) (fits : to ≤ length s) (some : from ≡ to → ⊥) {e : ℕ} (spanned : Spanned Digit s from to e) where
   first : slice from to s ≡ get_or s from 0 ∷ slice (from + 1) to s
@@ -143,7 +143,7 @@ module _ (s : List ℕ) (from to : ℕ) (order : from ≤ to) (fits : to ≤ len
 
     module _ {v : ℕ} (zero-not : get_or s from 0 ≡ 48 → ⊥) (v-is : v ≡ min (value_of (slice from to s)) 2147483649) where
       positive : 1 ≤ value_of (slice from to s)
-      positive = value-some (slice from to s) (get_or s from 0) (slice (from + 1) to s) first (are_all Digit s from to e order fits spanned digits) zero-not
+      positive = value_some (slice from to s) (get_or s from 0) (slice (from + 1) to s) first (are_all Digit s from to e order fits spanned digits) zero-not
 
       pub negative_large : 2147483648 < v → A.Not 8 ≡ atom_judged (judge_negative (slice from to s))
       negative_large l = rw (negative_is (slice from to s) (get_or s from 0) (slice (from + 1) to s) first, are_all Digit s from to e order fits spanned digits, ne_eqb (get_or s from 0) 48 zero-not) (negative_over (value_of (slice from to s)) (omega arith))
@@ -166,55 +166,55 @@ stands : {B : Type 0} (J : Judged (List ℕ)) (w : List ℕ) (r : ℕ) (k : List
 stands (is v) w r k h n = ap k h.1
 stands (is_not m) w r k h n = absurd (omega (arith, h.0, h.1))
 
-short-word : (J : Judged (List ℕ)) (w : List ℕ) (r : ℕ) → WordJudged J w r → r ≡ 0 → length w ≤ 12
-short-word (is v) w r h n = h.2
-short-word (is_not m) w r h n = absurd (omega (arith, h.0, h.1))
+short_word : (J : Judged (List ℕ)) (w : List ℕ) (r : ℕ) → WordJudged J w r → r ≡ 0 → length w ≤ 12
+short_word (is v) w r h n = h.2
+short_word (is_not m) w r h n = absurd (omega (arith, h.0, h.1))
 
 -- a word that stands is at most 12 bytes long
 pub word_few : (class : Class) (s : List ℕ) (from to : ℕ) {r : ℕ} → to ≤ length s → WordJudged (judge_word (test_of class) (slice from to s)) (slice from to s) r → r ≡ 0 → to ≤ from + 12
 word_few class s from to {r} fits h n =
-    let k = rw (length-slice from to s fits) at (short-word (judge_word (test_of class) (slice from to s)) (slice from to s) r h n) in
+    let k = rw (length-slice from to s fits) at (short_word (judge_word (test_of class) (slice from to s)) (slice from to s) r h n) in
     omega arith
 
 module _ (w : List ℕ) {r : ℕ} where
-  pub symbol-refused : WordJudged (judge_word (test_of Symbol) w) w r → (r ≡ 0 → ⊥) → A.Not r ≡ atom_judged (judge_symbol w)
+  pub symbol_refused : WordJudged (judge_word (test_of Symbol) w) w r → (r ≡ 0 → ⊥) → A.Not r ≡ atom_judged (judge_symbol w)
   unfolding judge_symbol
-  symbol-refused h n = ap atom_judged (sym (refused (judge_word (test_of Symbol) w) w r (λ v. is (symbol v)) h n))
+  symbol_refused h n = ap atom_judged (sym (refused (judge_word (test_of Symbol) w) w r (λ v. is (symbol v)) h n))
 
-  pub symbol-good : {v : ℕ} → WordJudged (judge_word (test_of Symbol) w) w r → r ≡ 0 → v ≡ packed w → A.Is (record { tag = 2; word = v }) ≡ atom_judged (judge_symbol w)
+  pub symbol_good : {v : ℕ} → WordJudged (judge_word (test_of Symbol) w) w r → r ≡ 0 → v ≡ packed w → A.Is (record { tag = 2; word = v }) ≡ atom_judged (judge_symbol w)
   unfolding judge_symbol
-  symbol-good {v} h n e = rw e (ap atom_judged (sym (stands (judge_word (test_of Symbol) w) w r (λ v. is (symbol v)) h n)))
+  symbol_good {v} h n e = rw e (ap atom_judged (sym (stands (judge_word (test_of Symbol) w) w r (λ v. is (symbol v)) h n)))
 
-  pub plain-refused : WordJudged (judge_word (test_of Name) w) w r → (r ≡ 0 → ⊥) → P.Not r ≡ part_judged (judge_plain w)
+  pub plain_refused : WordJudged (judge_word (test_of Name) w) w r → (r ≡ 0 → ⊥) → P.Not r ≡ part_judged (judge_plain w)
   unfolding judge_plain
-  plain-refused h n = ap part_judged (sym (refused (judge_word (test_of Name) w) w r (λ v. is (word_form v)) h n))
+  plain_refused h n = ap part_judged (sym (refused (judge_word (test_of Name) w) w r (λ v. is (word_form v)) h n))
 
 -- a word of the table, or a name
-form-found : (f : Option Op) (w : List ℕ) (k : ℕ) → k ≡ code_of f → k < 23 → P.Primitive k ≡ form_judged (elim f as (λ (u : Option Op). Form) [ some o ↦ word (op o) | none ↦ name w ])
-form-found (some o) w k e h = rw e
-form-found none w k e h = absurd (omega arith)
+form_found : (f : Option Op) (w : List ℕ) (k : ℕ) → k ≡ code_of f → k < 23 → P.Primitive k ≡ form_judged (elim f as (λ (u : Option Op). Form) [ some o ↦ word (op o) | none ↦ name w ])
+form_found (some o) w k e h = rw e
+form_found none w k e h = absurd (omega arith)
 
-form-name : (f : Option Op) (w : List ℕ) (k v : ℕ) → k ≡ code_of f → 23 ≤ k → v ≡ packed w → P.Name v ≡ form_judged (elim f as (λ (u : Option Op). Form) [ some o ↦ word (op o) | none ↦ name w ])
-form-name (some o) w k v e h p = let b = code_below o in absurd (omega arith)
-form-name none w k v e h p = rw p
+form_name : (f : Option Op) (w : List ℕ) (k v : ℕ) → k ≡ code_of f → 23 ≤ k → v ≡ packed w → P.Name v ≡ form_judged (elim f as (λ (u : Option Op). Form) [ some o ↦ word (op o) | none ↦ name w ])
+form_name (some o) w k v e h p = let b = code_below o in absurd (omega arith)
+form_name none w k v e h p = rw p
 
 module _ (w : List ℕ) {r k : ℕ} (judged : WordJudged (judge_word (test_of Name) w) w r) (stays : r ≡ 0) (found : k ≡ code_of (find_op ops w)) where
   pub plain_primitive : k < 23 → P.Primitive k ≡ part_judged (judge_plain w)
   unfolding judge_plain word_form
-  plain_primitive h = form-found (find_op ops w) w k found h ∙ ap part_judged (sym (stands (judge_word (test_of Name) w) w r (λ v. is (word_form v)) judged stays))
+  plain_primitive h = form_found (find_op ops w) w k found h ∙ ap part_judged (sym (stands (judge_word (test_of Name) w) w r (λ v. is (word_form v)) judged stays))
 
-  pub plain-name : {v : ℕ} → 23 ≤ k → v ≡ packed w → P.Name v ≡ part_judged (judge_plain w)
+  pub plain_name : {v : ℕ} → 23 ≤ k → v ≡ packed w → P.Name v ≡ part_judged (judge_plain w)
   unfolding judge_plain word_form
-  plain-name {v} h e = form-name (find_op ops w) w k v found h e ∙ ap part_judged (sym (stands (judge_word (test_of Name) w) w r (λ v. is (word_form v)) judged stays))
+  plain_name {v} h e = form_name (find_op ops w) w k v found h e ∙ ap part_judged (sym (stands (judge_word (test_of Name) w) w r (λ v. is (word_form v)) judged stays))
 
 -- a defined name
 name_or : Option Op → List ℕ → Judged (List ℕ)
 name_or f v = elim f as (λ (u : Option Op). Judged (List ℕ)) [ some o ↦ is_not 6 | none ↦ is v ]
 
-name-found : (f : Option Op) (w : List ℕ) (k : ℕ) → k ≡ code_of f → k < 23 → N.Not 6 ≡ name_judged (name_or f w)
+name_found : (f : Option Op) (w : List ℕ) (k : ℕ) → k ≡ code_of f → k < 23 → N.Not 6 ≡ name_judged (name_or f w)
 unfolding name_or
-name-found (some o) w k e h = refl
-name-found none w k e h = absurd (omega arith)
+name_found (some o) w k e h = refl
+name_found none w k e h = absurd (omega arith)
 
 name_new : (f : Option Op) (w : List ℕ) (k v : ℕ) → k ≡ code_of f → 23 ≤ k → v ≡ packed w → N.Is v ≡ name_judged (name_or f w)
 unfolding name_or
@@ -227,7 +227,7 @@ name_is w b ds e = rw e
 
 module _ (s : List ℕ) (p n : ℕ) where
   none_there : p + n ≤ length s → n ≡ 0 → slice p (p + n) s ≡ []
-  none_there fits h = slice-none s p (p + n) fits (omega arith)
+  none_there fits h = slice_none s p (p + n) fits (omega arith)
 
   there : p + n ≤ length s → (n ≡ 0 → ⊥) → slice p (p + n) s ≡ get_or s p 0 ∷ slice (p + 1) (p + n) s
   there fits h = slice_first s p (p + n) (more n h) fits
@@ -235,37 +235,37 @@ module _ (s : List ℕ) (p n : ℕ) where
       more : (n : ℕ) → (n ≡ 0 → ⊥) → p < p + n
       more n h = omega arith
 
-  pub name-none : p + n ≤ length s → n ≡ 0 → N.Not 6 ≡ name_judged (judge_name (slice p (p + n) s))
+  pub name_none : p + n ≤ length s → n ≡ 0 → N.Not 6 ≡ name_judged (judge_name (slice p (p + n) s))
   unfolding judge_name
-  name-none fits h = rw (none_there fits h)
+  name_none fits h = rw (none_there fits h)
 
   module _ {t : Bool} (fits : p + n ≤ length s) (some : n ≡ 0 → ⊥) (letter : t ≡ is_letter (get_or s p 0)) where
-    pub name-other : not t ≡ true → N.Not 6 ≡ name_judged (judge_name (slice p (p + n) s))
-    name-other h = rw (name_is (slice p (p + n) s) (get_or s p 0) (slice (p + 1) (p + n) s) (there fits some), sym letter ∙ not-true t h)
+    pub name_other : not t ≡ true → N.Not 6 ≡ name_judged (judge_name (slice p (p + n) s))
+    name_other h = rw (name_is (slice p (p + n) s) (get_or s p 0) (slice (p + 1) (p + n) s) (there fits some), sym letter ∙ not-true t h)
 
-    name-word : not t ≡ false → judge_name (slice p (p + n) s) ≡ on_judged (judge_word (test_of Name) (slice p (p + n) s)) (λ v. name_or (find_op ops v) v)
-    name-word h = rw (name_is (slice p (p + n) s) (get_or s p 0) (slice (p + 1) (p + n) s) (there fits some), sym letter ∙ not-false t h)
+    name_word : not t ≡ false → judge_name (slice p (p + n) s) ≡ on_judged (judge_word (test_of Name) (slice p (p + n) s)) (λ v. name_or (find_op ops v) v)
+    name_word h = rw (name_is (slice p (p + n) s) (get_or s p 0) (slice (p + 1) (p + n) s) (there fits some), sym letter ∙ not-false t h)
 
     module _ {r : ℕ} (is-letter : not t ≡ false) (judged : WordJudged (judge_word (test_of Name) (slice p (p + n) s)) (slice p (p + n) s) r) where
-      pub name-refused : (r ≡ 0 → ⊥) → N.Not r ≡ name_judged (judge_name (slice p (p + n) s))
-      name-refused h = ap name_judged (sym (name-word is-letter ∙ refused (judge_word (test_of Name) (slice p (p + n) s)) (slice p (p + n) s) r (λ v. name_or (find_op ops v) v) judged h))
+      pub name_refused : (r ≡ 0 → ⊥) → N.Not r ≡ name_judged (judge_name (slice p (p + n) s))
+      name_refused h = ap name_judged (sym (name_word is-letter ∙ refused (judge_word (test_of Name) (slice p (p + n) s)) (slice p (p + n) s) r (λ v. name_or (find_op ops v) v) judged h))
 
       module _ {k : ℕ} (stays : r ≡ 0) (found : k ≡ code_of (find_op ops (slice p (p + n) s))) where
         pub name_primitive : k < 23 → N.Not 6 ≡ name_judged (judge_name (slice p (p + n) s))
-        name_primitive h = name-found (find_op ops (slice p (p + n) s)) (slice p (p + n) s) k found h ∙ ap name_judged (sym (name-word is-letter ∙ stands (judge_word (test_of Name) (slice p (p + n) s)) (slice p (p + n) s) r (λ v. name_or (find_op ops v) v) judged stays))
+        name_primitive h = name_found (find_op ops (slice p (p + n) s)) (slice p (p + n) s) k found h ∙ ap name_judged (sym (name_word is-letter ∙ stands (judge_word (test_of Name) (slice p (p + n) s)) (slice p (p + n) s) r (λ v. name_or (find_op ops v) v) judged stays))
 
-        pub name-good : {v : ℕ} → 23 ≤ k → v ≡ packed (slice p (p + n) s) → N.Is v ≡ name_judged (judge_name (slice p (p + n) s))
-        name-good {v} h e = name_new (find_op ops (slice p (p + n) s)) (slice p (p + n) s) k v found h e ∙ ap name_judged (sym (name-word is-letter ∙ stands (judge_word (test_of Name) (slice p (p + n) s)) (slice p (p + n) s) r (λ v. name_or (find_op ops v) v) judged stays))
+        pub name_good : {v : ℕ} → 23 ≤ k → v ≡ packed (slice p (p + n) s) → N.Is v ≡ name_judged (judge_name (slice p (p + n) s))
+        name_good {v} h e = name_new (find_op ops (slice p (p + n) s)) (slice p (p + n) s) k v found h e ∙ ap name_judged (sym (name_word is-letter ∙ stands (judge_word (test_of Name) (slice p (p + n) s)) (slice p (p + n) s) r (λ v. name_or (find_op ops v) v) judged stays))
 
 -- ---- where an object or a part may stand, by the first byte: a number, a word, or all else
 pub record ByFirst {B R : Type 0} (told : Judged B → R) (judge number word : List ℕ → Judged B) (other : ℕ → List ℕ → Judged B) : Type 0 where
   none_is : judge [] ≡ is_not 6
   some_is : (w : List ℕ) (b : ℕ) (ds : List ℕ) → w ≡ b ∷ ds → judge w ≡ cond (is_digit b) (number w) (cond (is_letter b) (word w) (other b ds))
 
-abbrev atom-else : ℕ → List ℕ → Judged Obj
-atom-else b ds = cond (eqb b 45) (judge_negative ds) (is_not 6)
+abbrev atom_else : ℕ → List ℕ → Judged Obj
+atom_else b ds = cond (eqb b 45) (judge_negative ds) (is_not 6)
 
-pub atoms : ByFirst atom_judged judge_atom judge_integer judge_symbol atom-else
+pub atoms : ByFirst atom_judged judge_atom judge_integer judge_symbol atom_else
 unfolding judge_atom judge_symbol
 atoms = record { none_is = refl; some_is = λ w b ds e. rw e }
 
@@ -274,34 +274,34 @@ unfolding judge_part judge_plain
 parts = record { none_is = refl; some_is = λ w b ds e. rw e }
 
 module _ {B R : Type 0} {told : Judged B → R} {judge number word : List ℕ → Judged B} {other : ℕ → List ℕ → Judged B} (first : ByFirst told judge number word other) (s : List ℕ) (p n : ℕ) (fits : p + n ≤ length s) where
-  pub first-none : {r : R} → n ≡ 0 → r ≡ told (is_not 6) → r ≡ told (judge (slice p (p + n) s))
-  first-none h e = rw (none_there s p n fits h, first.none_is) e
+  pub first_none : {r : R} → n ≡ 0 → r ≡ told (is_not 6) → r ≡ told (judge (slice p (p + n) s))
+  first_none h e = rw (none_there s p n fits h, first.none_is) e
 
   module _ {d : Bool} (some : n ≡ 0 → ⊥) (digit : d ≡ is_digit (get_or s p 0)) where
     here : judge (slice p (p + n) s) ≡ cond d (number (slice p (p + n) s)) (cond (is_letter (get_or s p 0)) (word (slice p (p + n) s)) (other (get_or s p 0) (slice (p + 1) (p + n) s)))
     here = rw digit (first.some_is (slice p (p + n) s) (get_or s p 0) (slice (p + 1) (p + n) s) (there s p n fits some))
 
-    pub first-number : {r : R} → d ≡ true → r ≡ told (number (slice p (p + n) s)) → r ≡ told (judge (slice p (p + n) s))
-    first-number h e = rw (here, h) e
+    pub first_number : {r : R} → d ≡ true → r ≡ told (number (slice p (p + n) s)) → r ≡ told (judge (slice p (p + n) s))
+    first_number h e = rw (here, h) e
 
     module _ {l : Bool} (no_digit : d ≡ false) (letter : l ≡ is_letter (get_or s p 0)) where
       pub first_word : {r : R} → l ≡ true → r ≡ told (word (slice p (p + n) s)) → r ≡ told (judge (slice p (p + n) s))
       first_word h e = rw (here, no_digit, sym letter ∙ h) e
 
-      pub first-other : {r : R} → l ≡ false → r ≡ told (other (get_or s p 0) (slice (p + 1) (p + n) s)) → r ≡ told (judge (slice p (p + n) s))
-      first-other h e = rw (here, no_digit, sym letter ∙ h) e
+      pub first_other : {r : R} → l ≡ false → r ≡ told (other (get_or s p 0) (slice (p + 1) (p + n) s)) → r ≡ told (judge (slice p (p + n) s))
+      first_other h e = rw (here, no_digit, sym letter ∙ h) e
 
 -- what is no digit and no letter, where an object may stand: a minus or nothing that fits
 module _ (b : ℕ) (ds : List ℕ) where
-  pub other-not : (b ≡ 45 → ⊥) → A.Not 6 ≡ atom_judged (atom-else b ds)
+  pub other-not : (b ≡ 45 → ⊥) → A.Not 6 ≡ atom_judged (atom_else b ds)
   other-not m = rw (ne_eqb b 45 m)
 
-  pub other_minus : {r : AtomJudged} → b ≡ 45 → r ≡ atom_judged (judge_negative ds) → r ≡ atom_judged (atom-else b ds)
+  pub other_minus : {r : AtomJudged} → b ≡ 45 → r ≡ atom_judged (judge_negative ds) → r ≡ atom_judged (atom_else b ds)
   other_minus m e = rw (eq-eqb b 45 m) e
 
 -- selectors
 pub selector_none : (s : List ℕ) (from to : ℕ) → to ≤ length s → from ≡ to → false ≡ is_selector (slice from to s)
-selector_none s from to fits h = rw (slice-none s from to fits (omega arith))
+selector_none s from to fits h = rw (slice_none s from to fits (omega arith))
 
 module _ (s : List ℕ) (from to : ℕ) (order : from ≤ to) (fits : to ≤ length s) (some : from ≡ to → ⊥) where
   less : from < to
@@ -336,12 +336,12 @@ selector_small (b ∷ ds) h = go (eqb b 48) h
 pub r_long : (s : List ℕ) (from to : ℕ) → to ≤ length s → (to - from ≡ 1 → ⊥) → false ≡ same_bytes (slice from to s) (bytes "r")
 r_long s from to fits h = sym (same_not (slice from to s) (bytes "r") (λ e. h (sym (length-slice from to s fits) ∙ e)))
 
-and-true : (x : Bool) → x ≡ x && true
-and-true true = refl
-and-true false = refl
+and_true : (x : Bool) → x ≡ x && true
+and_true true = refl
+and_true false = refl
 
 pub r_here : (s : List ℕ) (from to : ℕ) → to ≤ length s → to - from ≡ 1 → eqb (get_or s from 0) 114 ≡ same_bytes (slice from to s) (bytes "r")
-r_here s from to fits h = rw (slice_first s from to (omega arith) fits, slice-none s (from + 1) to fits (omega arith)) (and-true (eqb (get_or s from 0) 114))
+r_here s from to fits h = rw (slice_first s from to (omega arith) fits, slice_none s (from + 1) to fits (omega arith)) (and_true (eqb (get_or s from 0) 114))
 
 take-drop : (m n : ℕ) (l : List ℕ) → take n (drop m l) ≡ drop m (take (m + n) l)
 take-drop zero n l = rw (zero-add n)
@@ -370,7 +370,7 @@ module _ (s : List ℕ) (from to e : ℕ) (order : from ≤ to) (fits : to ≤ l
   judge_is = rw (size_is, digits_are, rest_is)
 
   whole : e ≡ to → same_bytes (slice e to s) [] ≡ true
-  whole h = rw (slice-none s e to fits (omega arith))
+  whole h = rw (slice_none s e to fits (omega arith))
 
   more : (e ≡ to → ⊥) → same_bytes (slice e to s) [] ≡ false
   more h = let k = spanned.high in let l = spanned.low in rw (slice_first s e to (less s e to (omega arith) fits h) fits)

@@ -13,7 +13,7 @@ use Rattle.language.specs.declared.Token.{Token}
 use Rattle.language.specs.Tokens.{span, place_from, size, size_at, dash_size, token_from, is_word_byte, is_digit}
 use Rattle.lexer.specs.declared.Class.TheVariants.{Blank, Word}
 use Rattle.lexer.specs.Readings.{Spanned, Skipped, WordSized, NextWord}
-use Rattle.lexer.proofs.Spans.{slice-rest}
+use Rattle.lexer.proofs.Spans.{slice_rest}
 
 -- A byte that passes a test which 0 does not pass is within the text.
 pub within : (P : ℕ → Bool) → P 0 ≡ false → (s : List ℕ) (p : ℕ) → P (get_or s p 0) ≡ true → p < length s
@@ -23,16 +23,16 @@ within P z (b ∷ s) (suc p) h = let i = within P z s p h in omega arith
 
 pub skipped : (s : List ℕ) (at r : ℕ) → Spanned Blank s at (length s) r → Skipped s at r
 unfolding place_from
-skipped s at r h = record { is = rw (slice-rest s at) at h.is; low = h.low; high = h.high }
+skipped s at r h = record { is = rw (slice_rest s at) at h.is; low = h.low; high = h.high }
 
 -- by the first byte
 size_word : (b : ℕ) (w : List ℕ) → is_word_byte b ≡ true → size (b ∷ w) ≡ suc (span is_word_byte w)
 unfolding size
 size_word b w e = rw (e, size)
 
-size-other : (b : ℕ) (w : List ℕ) → is_word_byte b ≡ false → eqb b 45 ≡ false → size (b ∷ w) ≡ 1
+size_other : (b : ℕ) (w : List ℕ) → is_word_byte b ≡ false → eqb b 45 ≡ false → size (b ∷ w) ≡ 1
 unfolding size
-size-other b w e n = rw (e, n, size)
+size_other b w e n = rw (e, n, size)
 
 size_dash : (b : ℕ) (w : List ℕ) → b ≡ 45 → size (b ∷ w) ≡ dash_size w
 unfolding size
@@ -54,34 +54,34 @@ dash_other (b ∷ s) zero d n = dash_mark b s false d (ne_eqb b 62 n)
 dash_other (b ∷ s) (suc q) d n = dash_other s q d n
 
 module _ (s : List ℕ) (p : ℕ) where
-  pub size-past : length s ≤ p → size_at s p ≡ 0
+  pub size_past : length s ≤ p → size_at s p ≡ 0
   unfolding size_at size
-  size-past h = rw (drop_of_length-le s {i = p} h)
+  size_past h = rw (drop_of_length-le s {i = p} h)
 
   at_dash : p < length s → get_or s p 0 ≡ 45 → size_at s p ≡ dash_size (drop (p + 1) s)
   unfolding size_at
   at_dash h e = rw (add-one, drop-cons s p 0) (size_dash (get_or s p 0) (drop (suc p) s) e)
 
   pub sized_past : length s ≤ p → WordSized s p 0
-  sized_past h = record { is = sym (size-past h); some = omega arith; high = omega arith }
+  sized_past h = record { is = sym (size_past h); some = omega arith; high = omega arith }
 
   pub sized_word : {t : Bool} {e : ℕ} → p < length s → t ≡ is_word_byte (get_or s p 0) → t ≡ true → Spanned Word s (p + 1) (length s) e → WordSized s p (e - p)
   unfolding size_at
   sized_word {t} {e} h is y r =
-      let k = rw (slice-rest s (p + 1)) at r.is in
+      let k = rw (slice_rest s (p + 1)) at r.is in
       let z : size_at s p ≡ suc (span is_word_byte (drop (p + 1) s)) = rw (add-one, drop-cons s p 0) (size_word (get_or s p 0) (drop (suc p) s) (sym is ∙ y)) in
       record { is = omega (arith, k, z); some = omega (arith, r.low); high = omega (arith, r.low, r.high) }
 
   pub sized_other : {t : Bool} → p < length s → t ≡ is_word_byte (get_or s p 0) → t ≡ false → (get_or s p 0 ≡ 45 → ⊥) → WordSized s p 1
   unfolding size_at
-  sized_other {t} h is n d = record { is = rw (drop-cons s p 0, size-other (get_or s p 0) (drop (suc p) s) (sym is ∙ n) (ne_eqb (get_or s p 0) 45 d)); some = omega arith; high = omega arith }
+  sized_other {t} h is n d = record { is = rw (drop-cons s p 0, size_other (get_or s p 0) (drop (suc p) s) (sym is ∙ n) (ne_eqb (get_or s p 0) 45 d)); some = omega arith; high = omega arith }
 
   module _ {t : Bool} {c : ℕ} (h : p < length s) (dash : get_or s p 0 ≡ 45) (at : c ≡ get_or s (p + 1) 0) (is : t ≡ is_digit c) where
     pub sized_number : {e : ℕ} → t ≡ true → Spanned Word s (p + 2) (length s) e → WordSized s p (e - p)
     sized_number {e} y r =
         let d : is_digit (get_or s (p + 1) 0) ≡ true = rw (← at) (sym is ∙ y) in
         let i = within is_digit refl s (p + 1) d in
-        let k = rw (slice-rest s (p + 2)) at r.is in
+        let k = rw (slice_rest s (p + 2)) at r.is in
         let z : size_at s p ≡ suc (suc (span is_word_byte (drop (suc (p + 1)) s))) = at_dash h dash ∙ rw (drop-cons s (p + 1) 0 i) (dash_digits (get_or s (p + 1) 0) (drop (suc (p + 1)) s) d) in
         let m : suc (p + 1) ≡ p + 2 = omega arith in
         let z' = rw m at z in
@@ -111,7 +111,7 @@ module _ (s : List ℕ) (at p : ℕ) where
   next_none k h =
       let e = k.is in
       let hi = k.high in
-      record { is = token_none (rw (← e) h); place = λ i. omega arith; size = sym (size-past s (length s) (omega arith)); low = omega arith; some = omega arith; high = omega arith }
+      record { is = token_none (rw (← e) h); place = λ i. omega arith; size = sym (size_past s (length s) (omega arith)); low = omega arith; some = omega arith; high = omega arith }
 
   pub next_some : {n : ℕ} → Skipped s at p → p < length s → WordSized s p n → NextWord s at (record { place = p; length = n })
   next_some {n} k h z =

@@ -17,7 +17,7 @@ use Rattle.language.specs.Judging.{find_op}
 use Rattle.lexer.specs.Vocabulary.{op_code, code_of, rule_code, row_of, row_byte, VocabularyRows, spelled_at, rule_at}
 use Rattle.lexer.proofs.Computed.{at, every}
 use Rattle.packing.proofs.Slices.{slice_first}
-use Rattle.lexer.proofs.Spans.{slice-none}
+use Rattle.lexer.proofs.Spans.{slice_none}
 
 -- Every word stands in the table, at its code.
 placed : (o : Op) → (get_or ops (op_code o) W.id ≡ o) × T (ltb (op_code o) 23)
@@ -106,22 +106,22 @@ spelled_of o = spelled_at_lem (op_code o) (code_below o) ∙ ap (λ (p : Op). (e
 pub rule_of_lem : (o : Op) → rule_at (op_code o) ≡ rule_code (entry o).rule
 rule_of_lem o = rule_at_lem (op_code o) (code_below o) ∙ ap (λ (p : Op). rule_code (entry p).rule) (op_at o)
 
-pub spelled-past : (k : ℕ) → 22 < k → spelled_at k ≡ []
+pub spelled_past : (k : ℕ) → 22 < k → spelled_at k ≡ []
 unfolding spelled_at
-spelled-past k h = get_or-eq_default (map (λ (o : Op). (entry o).spelled) ops) [] {n = k} h
+spelled_past k h = get_or-eq_default (map (λ (o : Op). (entry o).spelled) ops) [] {n = k} h
 
-pub length-past : (k : ℕ) → 22 < k → 0 ≡ length (spelled_at k)
-length-past k h = rw (spelled-past k h)
+pub length_past : (k : ℕ) → 22 < k → 0 ≡ length (spelled_at k)
+length_past k h = rw (spelled_past k h)
 
 pub byte_past : (k i : ℕ) → 22 < k → 0 ≡ get_or (spelled_at k) i 0
-byte_past k i h = rw (spelled-past k h)
+byte_past k i h = rw (spelled_past k h)
 
 pub byte_over : (k i : ℕ) {n : ℕ} → n ≡ length (spelled_at k) → n ≤ i → 0 ≡ get_or (spelled_at k) i 0
 byte_over k i e h = sym (get_or-eq_default (spelled_at k) 0 {n = i} (omega arith))
 
-pub rule-past : (k : ℕ) → 22 < k → 0 ≡ rule_at k
+pub rule_past : (k : ℕ) → 22 < k → 0 ≡ rule_at k
 unfolding rule_at
-rule-past k h = sym (get_or-eq_default (map (λ (o : Op). rule_code (entry o).rule) ops) 0 {n = k} h)
+rule_past k h = sym (get_or-eq_default (map (λ (o : Op). rule_code (entry o).rule) ops) 0 {n = k} h)
 
 pub few : (k : ℕ) → k ≤ 22 → length (spelled_at k) ≤ 7
 few k h = rw (spelled_at_lem k (omega arith)) (few_letters k (omega arith))
@@ -189,7 +189,7 @@ module _ (s : List ℕ) (from to i code : ℕ) (fits : to ≤ length s) where
     word_differs e = sym (inv ∙ here h (omega arith) ∙ rw (ne_eqb (get_or (spelled_at code) (i - from) 0) (get_or s i 0) (λ z. e (b-is ∙ z))))
 
   pub word_end : {n : ℕ} → n ≡ length (spelled_at code) → n ≡ to - from → to ≤ i → from ≤ i → same_bytes (spelled_at code) (slice from to s) ≡ same_bytes (drop (i - from) (spelled_at code)) (slice i to s) → true ≡ same_bytes (spelled_at code) (slice from to s)
-  word_end {n} size long h low inv = sym (inv ∙ rw (drop_of_length-le (spelled_at code) {i = i - from} (omega arith), slice-none s i to fits h))
+  word_end {n} size long h low inv = sym (inv ∙ rw (drop_of_length-le (spelled_at code) {i = i - from} (omega arith), slice_none s i to fits h))
 
 -- finding a word
 choose : (o : Op) (os : List Op) (w : List ℕ) (t : Bool) → same_bytes (entry o).spelled w ≡ t → find_op (o ∷ os) w ≡ elim t as (λ (u : Bool). Option Op) [ true ↦ some o | false ↦ find_op os w ]

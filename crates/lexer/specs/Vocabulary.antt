@@ -1,7 +1,7 @@
 -- The primitive words by their place in the table.
 use Rattle.std.specs.Prelude.{ℕ, suc, ◌+◌, ◌*◌, ◌≤◌, ◌<◌, ◌≡◌, List, [], ◌∷◌, ◌++◌, map, length, get_or, replicate}
 use Rattle.std.proofs.Math.Option.{Option, some, none}
-use Rattle.language.specs.Words.{Op, Op-discrete, CellRule, no_cell, one_Cell, n_less_1, n_cells, n_and_1, three_n, m_and_m_times_n, entry, ops}
+use Rattle.language.specs.Words.{Op, Op-discrete, CellRule, no_cell, one_cell, n_less_1, n_cells, n_and_1, three_n, m_and_m_times_n, entry, ops}
 use Rattle.language.specs.Words as W
 
 -- how many words stand before this one
@@ -19,7 +19,7 @@ code_of none = 23
 
 abbrev pub rule_code : CellRule → ℕ
 rule_code no_cell = 0
-rule_code one_Cell = 1
+rule_code one_cell = 1
 rule_code n_less_1 = 2
 rule_code n_cells = 3
 rule_code n_and_1 = 4

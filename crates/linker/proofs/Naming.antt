@@ -45,8 +45,8 @@ find_end {D} {many} {lo} {hi} {d} l w = sym (w.whole ∙ none_here D (many - d) 
 
 -- ---- the index
 -- a link that leads to the definitions themselves
-leads-here : (D : List ℕ) (many lo hi left : ℕ) → (0 < left → low_at D (many - left) ≡ lo % 256) → Leads D many lo hi left left
-leads-here D many lo hi left a = record { most = omega arith; alike = a; found = refl }
+leads_here : (D : List ℕ) (many lo hi left : ℕ) → (0 < left → low_at D (many - left) ≡ lo % 256) → Leads D many lo hi left left
+leads_here D many lo hi left a = record { most = omega arith; alike = a; found = refl }
 
 -- a definition whose name is not alike is passed over
 no_name : (D : List ℕ) (d lo hi : ℕ) → (low_at D d ≡ lo % 256 → ⊥) → named D d lo hi ≡ false
@@ -78,7 +78,7 @@ index_far h = record { entered = λ l. absurd (omega arith) }
 pub index_start : {D X : List ℕ} {many : ℕ} → X ≡ replicate 384 0 → Entered D many 0 X
 index_start {D} {X} {many} e = record {
   long = ap length e ∙ length_zeros 384;
-  first = λ lo hi. rw (e, zeros 384 (lo % 256)) (leads-here D many lo hi 0 (λ h. absurd (omega arith)));
+  first = λ lo hi. rw (e, zeros 384 (lo % 256)) (leads_here D many lo hi 0 (λ h. absurd (omega arith)));
   behind = λ k lo hi a b c. absurd (omega arith);
 }
 
@@ -87,31 +87,31 @@ module _ {D X : List ℕ} {many left first behind : ℕ} (few : many ≤ 128) (m
   abbrev entered : List ℕ
   entered = set (set X (left + 1 + 255) behind) first (left + 1)
 
-  first-here : get_or entered first 0 ≡ left + 1
-  first-here =
+  first_here : get_or entered first 0 ≡ left + 1
+  first_here =
       let z = length-set X (left + 1 + 255) behind in
       get_or-set_same (set X (left + 1 + 255) behind) first (left + 1) 0 (omega (arith, was.long))
 
-  first-other : (i : ℕ) → i < 256 → (i ≡ first → ⊥) → get_or entered i 0 ≡ get_or X i 0
-  first-other i l h = get_or-set_other (set X (left + 1 + 255) behind) first i (left + 1) 0 h ∙ get_or-set_other X (left + 1 + 255) i behind 0 (λ e. omega arith)
+  first_other : (i : ℕ) → i < 256 → (i ≡ first → ⊥) → get_or entered i 0 ≡ get_or X i 0
+  first_other i l h = get_or-set_other (set X (left + 1 + 255) behind) first i (left + 1) 0 h ∙ get_or-set_other X (left + 1 + 255) i behind 0 (λ e. omega arith)
 
-  behind-here : get_or entered (left + 1 + 255) 0 ≡ behind
-  behind-here = get_or-set_other (set X (left + 1 + 255) behind) first (left + 1 + 255) (left + 1) 0 (λ e. omega arith) ∙ get_or-set_same X (left + 1 + 255) behind 0 (omega (arith, was.long))
+  behind_here : get_or entered (left + 1 + 255) 0 ≡ behind
+  behind_here = get_or-set_other (set X (left + 1 + 255) behind) first (left + 1 + 255) (left + 1) 0 (λ e. omega arith) ∙ get_or-set_same X (left + 1 + 255) behind 0 (omega (arith, was.long))
 
-  behind-other : (k : ℕ) → 0 < k → k ≤ left → get_or entered (k + 255) 0 ≡ get_or X (k + 255) 0
-  behind-other k a l = get_or-set_other (set X (left + 1 + 255) behind) first (k + 255) (left + 1) 0 (λ e. omega arith) ∙ get_or-set_other X (left + 1 + 255) (k + 255) behind 0 (λ e. omega arith)
+  behind_other : (k : ℕ) → 0 < k → k ≤ left → get_or entered (k + 255) 0 ≡ get_or X (k + 255) 0
+  behind_other k a l = get_or-set_other (set X (left + 1 + 255) behind) first (k + 255) (left + 1) 0 (λ e. omega arith) ∙ get_or-set_other X (left + 1 + 255) (k + 255) behind 0 (λ e. omega arith)
 
-  leads-more : (lo hi : ℕ) → Leads D many lo hi (left + 1) (get_or entered (lo % 256) 0)
-  leads-more lo hi = go (eqb (lo % 256) first) refl
+  leads_more : (lo hi : ℕ) → Leads D many lo hi (left + 1) (get_or entered (lo % 256) 0)
+  leads_more lo hi = go (eqb (lo % 256) first) refl
     where
       go : (t : Bool) → eqb (lo % 256) first ≡ t → Leads D many lo hi (left + 1) (get_or entered (lo % 256) 0)
       go true e =
           let h = eqb-true (lo % 256) first e in
-          rw (h, first-here) (leads-here D many lo hi (left + 1) (λ z. sym f ∙ sym h))
+          rw (h, first_here) (leads_here D many lo hi (left + 1) (λ z. sym f ∙ sym h))
       go false e =
           let h = eqb-false (lo % 256) first e in
           let z : left + 1 - 1 ≡ left = omega arith in
-          rw (first-other (lo % 256) (omega arith) h) (leads_on (omega arith) (omega arith) (no_name D (many - (left + 1)) lo hi (λ q. h (sym q ∙ sym f))) (rw z (was.first lo hi)))
+          rw (first_other (lo % 256) (omega arith) h) (leads_on (omega arith) (omega arith) (no_name D (many - (left + 1)) lo hi (λ q. h (sym q ∙ sym f))) (rw z (was.first lo hi)))
 
   behind_more : (k lo hi : ℕ) → 0 < k → k ≤ left + 1 → low_at D (many - k) ≡ lo % 256 → Leads D many lo hi (k - 1) (get_or entered (k + 255) 0)
   behind_more k lo hi a l q = go (eqb k (left + 1)) refl
@@ -121,13 +121,13 @@ module _ {D X : List ℕ} {many left first behind : ℕ} (few : many ≤ 128) (m
           let h = eqb-true k (left + 1) e in
           let z : left + 1 - 1 ≡ left = omega arith in
           let i : first ≡ lo % 256 = f ∙ ap (λ (j : ℕ). low_at D (many - j)) (sym h) ∙ q in
-          rw (h, behind-here, z, b, i) (was.first lo hi)
-      go false e = let h = eqb-false k (left + 1) e in rw (behind-other k a (omega (arith, h))) (was.behind k lo hi a (omega (arith, h)) q)
+          rw (h, behind_here, z, b, i) (was.first lo hi)
+      go false e = let h = eqb-false k (left + 1) e in rw (behind_other k a (omega (arith, h))) (was.behind k lo hi a (omega (arith, h)) q)
 
-  entered-more : Entered D many (left + 1) entered
-  entered-more = record {
+  entered_more : Entered D many (left + 1) entered
+  entered_more = record {
     long = length-set (set X (left + 1 + 255) behind) first (left + 1) ∙ length-set X (left + 1 + 255) behind ∙ was.long;
-    first = leads-more;
+    first = leads_more;
     behind = behind_more;
   }
 
@@ -140,7 +140,7 @@ pub indexing_start : {D X : List ℕ} {many : ℕ} → many ≤ 128 → X ≡ re
 indexing_start l e = record { few = l; most = omega arith; now = index_start e }
 
 pub indexing_next : {D X X₁ X₂ : List ℕ} {many left low behind : ℕ} → left < many → Indexing D many X left → low ≡ get_or D ((many - (left + 1)) * 4) 0 → behind ≡ get_or X (low % 256) 0 → X₁ ≡ set X (left + 1 + 255) behind → X₂ ≡ set X₁ (low % 256) (left + 1) → Indexing D many X₂ (left + 1)
-indexing_next l w e b z₁ z₂ = rw (z₂, z₁) (record { few = w.few; most = omega arith; now = entered-more w.few l w.now (ap (λ (i : ℕ). i % 256) e) b })
+indexing_next l w e b z₁ z₂ = rw (z₂, z₁) (record { few = w.few; most = omega arith; now = entered_more w.few l w.now (ap (λ (i : ℕ). i % 256) e) b })
 
 pub indexing_end : {D X : List ℕ} {many left : ℕ} → many ≤ left → Indexing D many X left → Indexed D many X
 indexing_end {D} {X} {many} {left} l w = let z : left ≡ many = omega (arith, w.most) in record { entered = λ h. subst (λ (k : ℕ). Entered D many k X) z w.now }

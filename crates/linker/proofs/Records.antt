@@ -15,21 +15,21 @@ use Rattle.formtable.specs.Standing.{kind_at, arity_at, wide_at, parts, Row, row
 use Rattle.linker.specs.Linked.{constant_at}
 
 -- ---- the parts of a form
-pub parts-formed : (f : Form) → IsForm f → AreForms (parts f)
-parts-formed (word w) h = tt
-parts-formed (name w) h = tt
-parts-formed (chain fs) h = h.1
-parts-formed (construct fs) h = h.1
-parts-formed (insert f) h = (h, tt)
-parts-formed (apply_all f) h = (h, tt)
-parts-formed (condition p f g) h = (h.0, (h.1, (h.2, tt)))
-parts-formed (while p f) h = (h.0, (h.1, tt))
-parts-formed (constant x) h = tt
-parts-formed (bu f x) h = (h.0, tt)
+pub parts_formed : (f : Form) → IsForm f → AreForms (parts f)
+parts_formed (word w) h = tt
+parts_formed (name w) h = tt
+parts_formed (chain fs) h = h.1
+parts_formed (construct fs) h = h.1
+parts_formed (insert f) h = (h, tt)
+parts_formed (apply_all f) h = (h, tt)
+parts_formed (condition p f g) h = (h.0, (h.1, (h.2, tt)))
+parts_formed (while p f) h = (h.0, (h.1, tt))
+parts_formed (constant x) h = tt
+parts_formed (bu f x) h = (h.0, tt)
 
-pub both-formed : (fs gs : Forms) → AreForms fs → AreForms gs → AreForms (fs +& gs)
-both-formed stop gs a b = b
-both-formed (f & fs) gs a b = (a.0, both-formed fs gs a.1 b)
+pub both_formed : (fs gs : Forms) → AreForms fs → AreForms gs → AreForms (fs +& gs)
+both_formed stop gs a b = b
+both_formed (f & fs) gs a b = (a.0, both_formed fs gs a.1 b)
 
 -- ---- one record
 -- the constant of a record whose kind is k, 12 or 16, and the tag

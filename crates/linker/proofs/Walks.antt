@@ -17,10 +17,10 @@ use Rattle.formtable.specs.Standing.{parts}
 use Rattle.linker.specs.declared.Turned.{Turned}
 use Rattle.linker.specs.Linked.{grouped, linked_kind_at, link_at}
 use Rattle.linker.specs.Roots.{root_from, root_in, link_set}
-use Rattle.linker.specs.Linking.{LinkedRow, row_op, row_select, row-select-right, row_name, row_construct, row_insert, row_all, row_condition, row_while, row_constant, row_bu, Tree, tree, tree-chain, Kids, no_kid, a_kid, Back, no_back, a_back, Walked, Before, Reversed, OneLinked, AllLinked}
-use Rattle.linker.proofs.Trees.{Keeps, forms_end, forms-join, tree_up, kids_up, back_up, tree-small, constant-kept, tree-kept, kids_kept, back_kept}
+use Rattle.linker.specs.Linking.{LinkedRow, row_op, row_select, row-select-right, row_name, row_construct, row_insert, row_all, row_condition, row_while, row_constant, row_bu, Tree, tree, tree_chain, Kids, no_kid, a_kid, Back, no_back, a_back, Walked, Before, Reversed, OneLinked, AllLinked}
+use Rattle.linker.proofs.Trees.{Keeps, forms_end, forms_join, tree_up, kids_up, back_up, tree_small, constant_kept, tree_kept, kids_kept, back_kept}
 use Rattle.formtable.proofs.Standing.{stands_up, arity_of}
-use Rattle.linker.proofs.Records.{parts-formed, both-formed, constant_of, row_same}
+use Rattle.linker.proofs.Records.{parts_formed, both_formed, constant_of, row_same}
 
 -- ---- one link set
 link_other : (t : List ℕ) (i link k : ℕ) → (k ≡ i * 4 → ⊥) → get_or (link_set t i link) k 0 ≡ get_or t k 0
@@ -62,7 +62,7 @@ walk_start l = record { most = omega arith; fits = l; means = λ C n root gs fs 
 walk_step : {t C : List ℕ} {n : ℕ} {root : List ℕ → ℕ} {start many : ℕ} {gs fs : Forms} {e j : ℕ} (q : ℕ) (past left : Forms) → q < many → past +& left ≡ gs → count left + q ≡ many → Kids t C n root start past j → Kids t C n root j (left +& fs) e → WalkNow t C n root start many gs fs e (link_at t j) (q + 1)
 walk_step q past stop l w s b a = absurd (omega arith)
 walk_step {t} {C} {n} {root} {start} {fs = fs} {e} q past (f & left) l w s b (a_kid tr link a) =
-    record { past = past +& (f & stop); left = left; whole = forms-join past (f & stop) left ∙ w; size = omega arith; behind = rw link (kids_more b tr link); ahead = rw link a }
+    record { past = past +& (f & stop); left = left; whole = forms_join past (f & stop) left ∙ w; size = omega arith; behind = rw link (kids_more b tr link); ahead = rw link a }
 
 pub walk_next : {t : List ℕ} {start many j j₁ q : ℕ} → q < many → Walking t start many j q → j₁ ≡ link_at t j → j₁ < 4294967296 → Walking t start many j₁ (q + 1)
 walk_next {q = q} l w e u = record { most = omega arith; fits = u; means = λ C n root gs fs e₁ c k. let h = w.means C n root gs fs e₁ c k in rw e (walk_step q h.past h.left l h.whole h.size h.behind h.ahead) }
@@ -109,10 +109,10 @@ turn_step {t₀} {t} {C} {n} {root} {start} {fs = fs} {e} {j} {before} q past (f
     record {
       past = past +& (f & stop);
       left = left;
-      whole = forms-join past (f & stop) left ∙ w;
+      whole = forms_join past (f & stop) left ∙ w;
       size = omega arith;
-      small = tree-small tr;
-      behind = rw link (back_more (back_kept (keep (start * 4) (j * 4) (λ k h₁ h₂ h₃. omega arith)) b) (tree-kept (link_kind t j before (omega arith)) (keep (j * 4 + 1) (m * 4) (λ k h₁ h₂ h₃. omega arith)) tr) (link_is t j before (omega arith) (omega arith)));
+      small = tree_small tr;
+      behind = rw link (back_more (back_kept (keep (start * 4) (j * 4) (λ k h₁ h₂ h₃. omega arith)) b) (tree_kept (link_kind t j before (omega arith)) (keep (j * 4 + 1) (m * 4) (λ k h₁ h₂ h₃. omega arith)) tr) (link_is t j before (omega arith) (omega arith)));
       ahead = rw link (kids_kept (keep (m * 4) (e * 4) (λ k h₁ h₂ h₃. omega arith)) a);
       below = record { keep = λ k h. link_other t j before k (λ h₁. omega arith) ∙ bl.keep k h };
     }
@@ -126,12 +126,12 @@ turn_next {t = t} {j = j} {before = before} {q = q} l w e u z = rw z (record {
   means = λ C n root gs fs e₁ c a b k. let h = w.means C n root gs fs e₁ c a b k in rw e (turn_step q h.past h.left l a (omega (arith, w.long)) h.whole h.size h.small h.behind h.ahead h.below);
 })
 
-none-left_back : {t C : List ℕ} {n : ℕ} {root : List ℕ → ℕ} {start : ℕ} {gs fs : Forms} {e j z : ℕ} (past left : Forms) → count left ≡ 0 → past +& left ≡ gs → Back t C n root 0 start past j z → Kids t C n root j (left +& fs) e → Back t C n root 0 start gs j z × Kids t C n root j fs e
-none-left_back {t} {C} {n} {root} {start} {j = j} {z = y} past stop z w b a = (subst (λ hs. Back t C n root 0 start hs j y) (sym (forms_end past) ∙ w) b, a)
-none-left_back past (f & left) z w b a = absurd (omega arith)
+none_left_back : {t C : List ℕ} {n : ℕ} {root : List ℕ → ℕ} {start : ℕ} {gs fs : Forms} {e j z : ℕ} (past left : Forms) → count left ≡ 0 → past +& left ≡ gs → Back t C n root 0 start past j z → Kids t C n root j (left +& fs) e → Back t C n root 0 start gs j z × Kids t C n root j fs e
+none_left_back {t} {C} {n} {root} {start} {j = j} {z = y} past stop z w b a = (subst (λ hs. Back t C n root 0 start hs j y) (sym (forms_end past) ∙ w) b, a)
+none_left_back past (f & left) z w b a = absurd (omega arith)
 
 pub turn_end : {t₀ t : List ℕ} {start many j before q : ℕ} → many ≤ q → Turning t₀ start many t j before q → Reversed t₀ start many (record { last = before; rest = j }) t
-turn_end l w = record { means = λ C n root gs fs e c a b k. let h = w.means C n root gs fs e c a b k in let z = none-left_back h.past h.left (omega (arith, h.size)) h.whole h.behind h.ahead in (z.0, z.1, h.below) }
+turn_end l w = record { means = λ C n root gs fs e c a b k. let h = w.means C n root gs fs e c a b k in let z = none_left_back h.past h.left (omega (arith, h.size)) h.whole h.behind h.ahead in (z.0, z.1, h.below) }
 
 -- ---- one record linked
 kind_of : (k : ℕ) → k < 12 → grouped (k % 32) ≡ k
@@ -162,8 +162,8 @@ row_of t u i h s x y g (S.row_insert a b c) = row_insert (kind_is t u i 7 (omega
 row_of t u i h s x y g (S.row_apply_all a b c) = row_all (kind_is t u i 8 (omega arith) h a)
 row_of t u i h s x y g (S.row_condition a b c) = row_condition (kind_is t u i 9 (omega arith) h a)
 row_of t u i h s x y g (S.row_while a b c) = row_while (kind_is t u i 10 (omega arith) h a)
-row_of t u i h s x y g (S.row_constant {x = o} {v = v} a b c r) = let l = tag_low r in row_constant {x = o} (ap grouped h ∙ kind_12 (S.kind_at t i) (omega arith) (omega arith)) (rw (constant-kept t u i h s) (constant_of t i 12 v refl a c r))
-row_of t u i h s x y g (S.row_bu {f = q} {x = o} {v = v} a b c r) = let l = tag_low r in row_bu {f = q} {x = o} (ap grouped h ∙ kind_16 (S.kind_at t i) (omega arith) (omega arith)) (rw (constant-kept t u i h s) (constant_of t i 16 v refl a c r))
+row_of t u i h s x y g (S.row_constant {x = o} {v = v} a b c r) = let l = tag_low r in row_constant {x = o} (ap grouped h ∙ kind_12 (S.kind_at t i) (omega arith) (omega arith)) (rw (constant_kept t u i h s) (constant_of t i 12 v refl a c r))
+row_of t u i h s x y g (S.row_bu {f = q} {x = o} {v = v} a b c r) = let l = tag_low r in row_bu {f = q} {x = o} (ap grouped h ∙ kind_16 (S.kind_at t i) (omega arith) (omega arith)) (rw (constant_kept t u i h s) (constant_of t i 16 v refl a c r))
 
 pub one_plain : {t u D : List ℕ} {i many k arity rest : ℕ} → k ≡ get_or t (i * 4) 0 → arity ≡ field t i 1 → (k % 32 ≡ 5 → ⊥) → (k % 32 ≡ 4 → ⊥) → Walked t (i + 1) arity rest → u ≡ link_set t i rest → OneLinked t i D many u
 one_plain {t} {i = i} {rest = rest} ke ae x y w z = rw z (record {
@@ -203,7 +203,7 @@ chain_of {C} {n} {root} t t₁ i r fs e l a b k (S.row_chain {fs = gs} q q₂ q�
     let lo : field u i 2 ≡ r.last = link_other t₂ i r.rest (i * 4 + 2) (λ h₃. omega arith) ∙ get_or-set_same t₁ (i * 4 + 2) r.last 0 (omega arith) in
     let first : get_or t₂ (i * 4) 0 ≡ 5 = get_or-set_other t₁ (i * 4 + 2) (i * 4) r.last 0 (λ h₃. omega arith) ∙ bl.keep (i * 4) (omega arith) ∙ q in
     let kd : get_or u (i * 4) 0 % 32 ≡ 5 % 32 = link_kind t₂ i r.rest (omega arith) ∙ ap (λ (x : ℕ). x % 32) first in (
-      a_kid {m = r.rest} {f = chain gs} {fs = fs} (tree-chain {i = i} {e = r.rest} {fs = gs} (omega arith) (ap grouped kd ∙ kind_of 5 (omega arith)) (rw lo (back_kept (keep ((i + 1) * 4) (r.rest * 4) (omega arith)) bk)))
+      a_kid {m = r.rest} {f = chain gs} {fs = fs} (tree_chain {i = i} {e = r.rest} {fs = gs} (omega arith) (ap grouped kd ∙ kind_of 5 (omega arith)) (rw lo (back_kept (keep ((i + 1) * 4) (r.rest * 4) (omega arith)) bk)))
           (link_is t₂ i r.rest (omega arith) (omega arith)) (kids_kept (keep (r.rest * 4) (e * 4) (omega arith)) ks),
       record { keep = λ j h. other j (λ h₃. omega arith) (λ h₃. omega arith) ∙ bl.keep j (omega arith) },
     )
@@ -270,7 +270,7 @@ link_start = record { long = refl; fits = omega arith; means = λ C n gs a b g s
 step_link : {t₀ t u D C : List ℕ} {n total many i : ℕ} {gs : Forms} → i < total → total ≤ 2048 → total * 4 ≤ length t → ((hs : Forms) → AreForms hs → S.Stands t₀ C n (i + 1) hs total → AllNow t₀ C n (root_in D many) total hs t (i + 1)) → OneLinked t i D many u → AreForms gs → S.Stands t₀ C n i gs total → AllNow t₀ C n (root_in D many) total gs u i
 step_link l a b h o g S.no_form = absurd (omega arith)
 step_link {t₀} {t} {C = C} {n} {total} {i = i} l a b h o g (S.a_form {f = f} {fs = fs} r s) =
-    let p = h (parts f +& fs) (both-formed (parts f) fs (parts-formed f g.0) g.1) s in
+    let p = h (parts f +& fs) (both_formed (parts f) fs (parts_formed f g.0) g.1) s in
     let q = o.means C n f fs total l a b g.0 (row_same t₀ t i (λ j h₁. p.raw.keep j (omega arith)) r) p.linked in
     record { linked = q.0; raw = record { keep = λ j h₁. q.1.keep j h₁ ∙ p.raw.keep j (omega arith) } }
 

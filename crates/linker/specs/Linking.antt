@@ -32,7 +32,7 @@ mutual
   -- a form in the records from i up to e
   pub data Tree (F C : List ℕ) (n : ℕ) (root : List ℕ → ℕ) : ℕ → Form → ℕ → Type 0 where
     tree : {i e : ℕ} {f : Form} → i < form_limit → LinkedRow F C n root i f → Kids F C n root (i + 1) (parts f) e → Tree F C n root i f e
-    tree-chain : {i e : ℕ} {fs : Forms} → i < form_limit → linked_kind_at F i ≡ 5 → Back F C n root 0 (i + 1) fs e (field F i 2) → Tree F C n root i (chain fs) e
+    tree_chain : {i e : ℕ} {fs : Forms} → i < form_limit → linked_kind_at F i ≡ 5 → Back F C n root 0 (i + 1) fs e (field F i 2) → Tree F C n root i (chain fs) e
 
   -- forms from j up to e, one behind the other, each leading to what follows it
   pub data Kids (F C : List ℕ) (n : ℕ) (root : List ℕ → ℕ) : ℕ → Forms → ℕ → Type 0 where

@@ -7,17 +7,17 @@ use Rattle.nattglod.specs.Calls.{early_refusal}
 use Rattle.nattglod.specs.Stages.{table_refusal}
 
 module _ (b f c : ℕ) where
-  pub table-many : 4096 < b → 5 ≡ table_refusal b f c
+  pub table_many : 4096 < b → 5 ≡ table_refusal b f c
   unfolding table_refusal
-  table-many l = rw (lt-ltb 4096 b l)
+  table_many l = rw (lt-ltb 4096 b l)
 
-  pub table-forms : b ≤ 4096 → (f ≡ 8192 → ⊥) → 5 ≡ table_refusal b f c
+  pub table_forms : b ≤ 4096 → (f ≡ 8192 → ⊥) → 5 ≡ table_refusal b f c
   unfolding table_refusal
-  table-forms l n = rw (le-ltb 4096 b l, ne_eqb f 8192 n)
+  table_forms l n = rw (le-ltb 4096 b l, ne_eqb f 8192 n)
 
-  pub table-cells : b ≤ 4096 → f ≡ 8192 → (c ≡ 4 * b → ⊥) → 5 ≡ table_refusal b f c
+  pub table_cells : b ≤ 4096 → f ≡ 8192 → (c ≡ 4 * b → ⊥) → 5 ≡ table_refusal b f c
   unfolding table_refusal
-  table-cells l e n = rw (le-ltb 4096 b l, eq-eqb f 8192 e, ne_eqb c (4 * b) n)
+  table_cells l e n = rw (le-ltb 4096 b l, eq-eqb f 8192 e, ne_eqb c (4 * b) n)
 
   pub table_right : b ≤ 4096 → f ≡ 8192 → c ≡ 4 * b → 0 ≡ table_refusal b f c
   unfolding table_refusal

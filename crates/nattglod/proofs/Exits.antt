@@ -75,24 +75,24 @@ record Zeroed (lent : Lent) (o : Outcome) : Type 0 where
   cells : o.lent.cells ≡ replicate (length lent.cells) 0
 
 module _ (lent : Lent) where
-  zeroed-scan : (s c : ℕ) (x : Obj) (w : Scan) → Zeroed lent (scanned lent s c x w)
-  zeroed-scan s c x (on o r) = record { forms = refl; cells = refl }
-  zeroed-scan s c x short = record { forms = refl; cells = refl }
-  zeroed-scan s c x deep = record { forms = refl; cells = refl }
+  zeroed_scan : (s c : ℕ) (x : Obj) (w : Scan) → Zeroed lent (scanned lent s c x w)
+  zeroed_scan s c x (on o r) = record { forms = refl; cells = refl }
+  zeroed_scan s c x short = record { forms = refl; cells = refl }
+  zeroed_scan s c x deep = record { forms = refl; cells = refl }
 
   zeroed_end : (r : RunEnd) → Zeroed lent (ended lent r)
-  zeroed_end (done x s c) = zeroed-scan s c x (scan (write_obj x) 0 (room_in lent))
+  zeroed_end (done x s c) = zeroed_scan s c x (scan (write_obj x) 0 (room_in lent))
   zeroed_end (fell s c) = record { forms = refl; cells = refl }
   zeroed_end (ran_out w s c) = record { forms = refl; cells = refl }
   zeroed_end too_few = record { forms = refl; cells = refl }
 
-  zeroed-read : {A : Type 0} (t : ℕ) (g : Got A) (k : A → Outcome) → ((a : A) → Zeroed lent (k a)) → Zeroed lent (on_read lent t g k)
-  zeroed-read t (got a e) k h = h a
-  zeroed-read t (no n p) k h = record { forms = refl; cells = refl }
+  zeroed_read : {A : Type 0} (t : ℕ) (g : Got A) (k : A → Outcome) → ((a : A) → Zeroed lent (k a)) → Zeroed lent (on_read lent t g k)
+  zeroed_read t (got a e) k h = h a
+  zeroed_read t (no n p) k h = record { forms = refl; cells = refl }
 
-  zeroed-texts : (program object : List ℕ) (b : Meter) → Zeroed lent (on_texts program object b lent)
+  zeroed_texts : (program object : List ℕ) (b : Meter) → Zeroed lent (on_texts program object b lent)
   unfolding on_texts
-  zeroed-texts program object b = zeroed-read 1 (read_program program) _ (λ P. zeroed-read 2 (read_object object) _ (λ x. zeroed_end (run one P x b)))
+  zeroed_texts program object b = zeroed_read 1 (read_program program) _ (λ P. zeroed_read 2 (read_object object) _ (λ x. zeroed_end (run one P x b)))
 
 -- ---- the whole call, by its early refusal k
 module _ (program object : List ℕ) (b : Meter) (forms cells output : List ℕ) {k : ℕ} (is-early : k ≡ early_refusal (length program) (length object) b (length forms) (length cells)) where
@@ -110,7 +110,7 @@ module _ (program object : List ℕ) (b : Meter) (forms cells output : List ℕ)
         → forms₂ ≡ replicate (length forms₁) 0 → cells₂ ≡ replicate (length cells₁) 0 → RunAnswered program object b (lends forms cells output) r forms₂ cells₂ output₂
     run_texts forms₁ cells₁ t lf lc zf zc =
         let o = (by_early program object b (lends forms cells output)).1 (sym is-early ∙ none) in
-        let z = zeroed-texts (lends forms cells output) program object b in
+        let z = zeroed_texts (lends forms cells output) program object b in
         record {
           answer = t.answer ∙ ap (λ (x : Outcome). x.answer) (sym o);
           forms_after = zf ∙ ap (λ (n : ℕ). replicate n 0) lf ∙ sym z.forms ∙ ap (λ (x : Outcome). x.lent.forms) (sym o);
@@ -120,14 +120,14 @@ module _ (program object : List ℕ) (b : Meter) (forms cells output : List ℕ)
 
 -- ---- the texts: refused, too few cells, or run
 module _ (program object : List ℕ) (b : Meter) (lent : Lent) where
-  pub program-refused : {n p : ℕ} → read_program program ≡ no n p → TextsAnswered program object b lent (at n p 1) lent.output
+  pub program_refused : {n p : ℕ} → read_program program ≡ no n p → TextsAnswered program object b lent (at n p 1) lent.output
   unfolding on_texts
-  program-refused e = record { answer = rw e; output_after = rw e }
+  program_refused e = record { answer = rw e; output_after = rw e }
 
   module _ {P : Prog} {e : ℕ} (is-program : read_program program ≡ got P e) where
-    pub object-refused : {n p : ℕ} → read_object object ≡ no n p → TextsAnswered program object b lent (at n p 2) lent.output
+    pub object_refused : {n p : ℕ} → read_object object ≡ no n p → TextsAnswered program object b lent (at n p 2) lent.output
     unfolding on_texts
-    object-refused f = record { answer = rw (is-program, f); output_after = rw (is-program, f) }
+    object_refused f = record { answer = rw (is-program, f); output_after = rw (is-program, f) }
 
     module _ {x : Obj} {e' : ℕ} (is-object : read_object object ≡ got x e') where
       texts_are : on_texts program object b lent ≡ ended lent (run one P x b)

@@ -8,7 +8,7 @@ use Rattle.language.specs.Writing.{write_obj, Scan}
 use Rattle.language.specs.Answers.{counting, scanned}
 use Rattle.language.specs.declared.Answer.{Answer}
 use Rattle.language.specs.declared.Val.{Val}
-use Rattle.objects.specs.Writings.{ObjectEnd, object-written, no_room, no_mark, ObjectWritten}
+use Rattle.objects.specs.Writings.{ObjectEnd, object_written, no_room, no_mark, ObjectWritten}
 use Rattle.objects.specs.declared.Written.{Written}
 use Rattle.objects.specs.declared.Written.TheVariants as W
 use Rattle.nattglod.specs.Calls.{lends}
@@ -23,12 +23,12 @@ numbered s c W.Deep = counting 26 s c 0
 module _ (forms cells output output' : List ℕ) (s c : ℕ) (x : Obj) {r : Written} where
   is_numbered : {w : Scan} → ObjectEnd (write_obj x) r output output' w → numbered s c r ≡ (scanned (lends forms cells output) s c x w).answer
   unfolding numbered
-  is_numbered (object-written e o) = ap (numbered s c) e
+  is_numbered (object_written e o) = ap (numbered s c) e
   is_numbered (no_room e o) = ap (numbered s c) e
   is_numbered (no_mark e o) = ap (numbered s c) e
 
   is_output : {w : Scan} → ObjectEnd (write_obj x) r output output' w → output' ≡ (scanned (lends forms cells output) s c x w).lent.output
-  is_output (object-written e o) = o
+  is_output (object_written e o) = o
   is_output (no_room e o) = o
   is_output (no_mark e o) = o
 
@@ -39,17 +39,17 @@ module _ {C : List ℕ} {v : Val} {s c : ℕ} {output output' : List ℕ} {w : W
     output_after = λ n x forms cells l R. is_output forms cells output output' s c x (O.means n x l R);
   }
 
-  pub written-done : {n : ℕ} {r : Answer} → w ≡ W.Done n → r ≡ counting 20 s c n → WrittenAnswered C v s c output r output'
+  pub written_done : {n : ℕ} {r : Answer} → w ≡ W.Done n → r ≡ counting 20 s c n → WrittenAnswered C v s c output r output'
   unfolding numbered
-  written-done e a = numbered_answered (a ∙ ap (numbered s c) (sym e))
+  written_done e a = numbered_answered (a ∙ ap (numbered s c) (sym e))
 
-  pub written-short : {r : Answer} → w ≡ W.Short → r ≡ counting 25 s c 0 → WrittenAnswered C v s c output r output'
+  pub written_short : {r : Answer} → w ≡ W.Short → r ≡ counting 25 s c 0 → WrittenAnswered C v s c output r output'
   unfolding numbered
-  written-short e a = numbered_answered (a ∙ ap (numbered s c) (sym e))
+  written_short e a = numbered_answered (a ∙ ap (numbered s c) (sym e))
 
-  pub written-deep : {r : Answer} → w ≡ W.Deep → r ≡ counting 26 s c 0 → WrittenAnswered C v s c output r output'
+  pub written_deep : {r : Answer} → w ≡ W.Deep → r ≡ counting 26 s c 0 → WrittenAnswered C v s c output r output'
   unfolding numbered
-  written-deep e a = numbered_answered (a ∙ ap (numbered s c) (sym e))
+  written_deep e a = numbered_answered (a ∙ ap (numbered s c) (sym e))
 
 -- the bytes that were written are few enough for an answer
 pub written_few : {C : List ℕ} {v : Val} {output output' : List ℕ} {w : Written} {n : ℕ} → ObjectWritten C v w output output' → w ≡ W.Done n → n < 4294967296

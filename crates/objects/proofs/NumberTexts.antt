@@ -36,9 +36,9 @@ more_of : (m n : ℕ) → n ≡ suc m → 9 < n → digits n n ≡ digits (n / 1
 more_of m n e h =
     ap (λ (k : ℕ). digits k n) e ∙ digits_more m n h ∙ ap (λ (x : List ℕ). x ++ (48 + n % 10) ∷ []) (digits_enough m (n / 10) (n / 10) (omega arith) (omega arith))
 
-pub more-digits : (n : ℕ) → 9 < n → decimal n ≡ decimal (n / 10) ++ (48 + n % 10) ∷ []
+pub more_digits : (n : ℕ) → 9 < n → decimal n ≡ decimal (n / 10) ++ (48 + n % 10) ∷ []
 unfolding decimal
-more-digits n h = more_of (n - 1) n (omega arith) h
+more_digits n h = more_of (n - 1) n (omega arith) h
 
 -- ---- digits from the last one: what is left, and behind it what stands from i on
 pub record Spelling (n : ℕ) (a : List ℕ) (left i : ℕ) : Type 0 where
@@ -72,7 +72,7 @@ spell_on n a left j i v e f h g =
       high = omega (arith, g.high);
       len = length-set a j v ∙ l;
       under = omega arith;
-      is = g.is ∙ rw (more-digits left h, append_assoc (decimal (left / 10)), stored a j i v e (omega (arith, g.high)), f);
+      is = g.is ∙ rw (more_digits left h, append_assoc (decimal (left / 10)), stored a j i v e (omega (arith, g.high)), f);
     }
   where
     some : (j : ℕ) → i ≡ suc j → left < 10 ^ i → 1 ≤ j

@@ -10,7 +10,7 @@ use Rattle.language.specs.Writing.{marks_of_obj}
 use Rattle.language.specs.declared.Val.{Val}
 use Rattle.theorems.proofs.Outcomes.{MeetsWord, meets_word, misspelled, out_of_range, too_long}
 use Rattle.theorems.proofs.JudgedWords.{IsAtomIn, judged_atom}
-use Rattle.theorems.proofs.Refusals.{mark-within}
+use Rattle.theorems.proofs.Refusals.{mark_within}
 use Rattle.tables.specs.Tables.{put}
 use Rattle.tables.proofs.Put.{put_after, put_before, put_none}
 use Rattle.tables.proofs.Records.{record_fits}
@@ -20,8 +20,8 @@ use Rattle.lexer.specs.Readings as L
 use Rattle.lexer.specs.Judgements.{atom_val, atom_judged}
 use Rattle.lexer.specs.declared.AtomJudged.{AtomJudged}
 use Rattle.lexer.specs.declared.AtomJudged.TheVariants as A
-use Rattle.cells.proofs.Encoded.{length-cells, length_places}
-use Rattle.objects.specs.Readings.{ReadMeets, reads, refuses, Goes, Ahead, AtomReading, ObjectReading, place_cells, PlaceMeets, no_place, last-place, more_places, PlaceReading, PlacesMeet, all_read, not-read, PlacesFrom, PlacesReading, WholeReading}
+use Rattle.cells.proofs.Encoded.{length_cells, length_places}
+use Rattle.objects.specs.Readings.{ReadMeets, reads, refuses, Goes, Ahead, AtomReading, ObjectReading, place_cells, PlaceMeets, no_place, last_place, more_places, PlaceReading, PlacesMeet, all_read, not_read, PlacesFrom, PlacesReading, WholeReading}
 use Rattle.objects.specs.declared.ObjectRead.{ObjectRead}
 use Rattle.objects.specs.declared.ObjectRead.TheVariants as O
 use Rattle.objects.specs.declared.PlaceRead.{PlaceRead}
@@ -29,7 +29,7 @@ use Rattle.objects.specs.declared.PlaceRead.TheVariants as P
 
 -- a mark stands within the text
 pub inside : (s : List ℕ) (p b m : ℕ) → b ≡ byte_at s p → b ≡ m → 1 ≤ m → p + 1 ≤ length s
-inside s p b m e f l = mark-within s p m l (eq-eqb (byte_at s p) m (sym e ∙ f))
+inside s p b m e f l = mark_within s p m l (eq-eqb (byte_at s p) m (sym e ∙ f))
 
 -- calls that are enough are at least one
 by_calls : (R : ℕ → Type 0) (n k : ℕ) → n + 1 ≤ k → ((j : ℕ) → n ≤ j → R (suc j)) → R k
@@ -54,7 +54,7 @@ later {s} {at} {p} {used} l h = record { ends = λ v e n f. go e n (h.ends v e n
 module _ (C : List ℕ) (c : ℕ) (x : Obj) (next : ℕ) {C₁ C₂ : List ℕ} (v : Val) where
   place_put : v ≡ val_of (c + 1) x → length C₁ ≡ length C → ((c + 1 + cells_of x) * 4 ≤ length C → C₁ ≡ put C ((c + 1) * 4) (cells_from (c + 1) x)) → C₂ ≡ cell_put C₁ c v next → (c + 1 + cells_of x) * 4 ≤ length C → C₂ ≡ put C (c * 4) (place_cells c x next)
   place_put e l f g room =
-      let n = length-cells x (c + 1) in
+      let n = length_cells x (c + 1) in
       let i : (c + 1) * 4 ≡ c * 4 + 4 = omega arith in
       g ∙ record_fits C₁ c v.tag next (v.word % 4294967296) (v.word / 4294967296) (omega arith)
       ∙ ap (λ (y : List ℕ). put y (c * 4) (cell v next)) (rw i at (f room)) ∙ rw e (put_before C (c * 4) (cell (val_of (c + 1) x) next) (cells_from (c + 1) x) (omega arith))
@@ -66,23 +66,23 @@ atom_val_lem (int (negsuc k)) c h = refl
 atom_val_lem (symbol w) c h = refl
 atom_val_lem (seq xs) c h = absurd (omega arith)
 
-atom-cells : (x : Obj) → marks_of_obj x ≤ 0 → cells_of x ≡ 0
-atom-cells (int z) h = refl
-atom-cells (symbol w) h = refl
-atom-cells (seq xs) h = absurd (omega arith)
+atom_cells : (x : Obj) → marks_of_obj x ≤ 0 → cells_of x ≡ 0
+atom_cells (int z) h = refl
+atom_cells (symbol w) h = refl
+atom_cells (seq xs) h = absurd (omega arith)
 
-atom-none : (x : Obj) (c : ℕ) → marks_of_obj x ≤ 0 → cells_from c x ≡ []
+atom_none : (x : Obj) (c : ℕ) → marks_of_obj x ≤ 0 → cells_from c x ≡ []
 unfolding cells_from
-atom-none (int z) c h = refl
-atom-none (symbol w) c h = refl
-atom-none (seq xs) c h = absurd (omega arith)
+atom_none (int z) c h = refl
+atom_none (symbol w) c h = refl
+atom_none (seq xs) c h = absurd (omega arith)
 
 atom_meets : (C : List ℕ) (used : ℕ) (x : Obj) (v : Val) (e : ℕ) → marks_of_obj x ≤ 0 → v ≡ atom_val x → ReadMeets C used (O.Got v e used) C (got x e)
 atom_meets C used x v e h f =
-    let z = atom-cells x h in
+    let z = atom_cells x h in
     let n : used ≡ used + cells_of x = omega arith in
     reads {x = x} {e = e} (ap (λ (y : Val). O.Got y e used) (f ∙ atom_val_lem x used h) ∙ ap (λ (m : ℕ). O.Got (val_of used x) e m) n)
-    (λ room. rw (atom-none x used h) (sym (put_none C (used * 4))))
+    (λ room. rw (atom_none x used h) (sym (put_none C (used * 4))))
 
 judged : {s : List ℕ} {p n : ℕ} {j : AtomJudged} → L.WordSized s p n → j ≡ atom_judged (judge_atom (slice p (p + n) s)) → (R : Judged Obj → Type 0) → ((w : List ℕ) (J : Judged Obj) → MeetsWord (IsAtomIn (length w)) J → j ≡ atom_judged J → R J) → R (judge_atom (word_at s p))
 judged {s} {p} {n} z h R f =
@@ -175,8 +175,8 @@ there : {s : List ℕ} {at p q d : ℕ} → L.Skipped s at p → L.Skipped s (p 
 there {s} k l byte = ap (λ (i : ℕ). byte_at s i) (sym (second k l)) ∙ sym byte
 
 module _ {s : List ℕ} {at room : ℕ} {C : List ℕ} {used p b : ℕ} (skipped : L.Skipped s at p) (byte : b ≡ byte_at s p) where
-  pub object-word : {r : ObjectRead} → (b ≡ 60 → ⊥) → AtomReading s p used r → ObjectReading s at room C used r C
-  object-word {r} o w = record {
+  pub object_word : {r : ObjectRead} → (b ≡ 60 → ⊥) → AtomReading s p used r → ObjectReading s at room C used r C
+  object_word {r} o w = record {
     ahead = later skipped.low w.ahead;
     means = λ k h. by_calls (λ k. ReadMeets C used r C (read_obj k s at room)) (2 * (length s - at)) k h (λ j g. rw (read_word s at room j (λ m. o (sym (here skipped byte) ∙ m))) (rw skipped.is at (w.means C)));
   }
@@ -212,7 +212,7 @@ module _ {s : List ℕ} {at room : ℕ} {C : List ℕ} {used p b : ℕ} (skipped
           }
         where
           go : (g : Got Objs) → PlacesMeet used 0 used C r C' g → ReadMeets C used r C' (and_then g (λ xs e. got (seq xs) e))
-          go _ (not-read e) = refuses e
+          go _ (not_read e) = refuses e
           go _ (all_read {x = x} {xs = xs} {e = e} f h) = sequence_is C used r C' x xs e f h
 
 -- ---- one place
@@ -256,12 +256,12 @@ module _ {s : List ℕ} {at room : ℕ} {C : List ℕ} {c : ℕ} {r : ObjectRead
   }
 
   module _ {v : Val} {e m q b : ℕ} (f : r ≡ O.Got v e m) (skipped : L.Skipped s e q) (byte : b ≡ byte_at s q) where
-    pub place-last : {C₂ : List ℕ} → b ≡ 62 → length C₁ ≡ length C → C₂ ≡ cell_put C₁ c v 0 → PlaceReading s at room C c (P.Last (q + 1) m) C₂
-    place-last {C₂} i l g = record {
+    pub place_last : {C₂ : List ℕ} → b ≡ 62 → length C₁ ≡ length C → C₂ ≡ cell_put C₁ c v 0 → PlaceReading s at room C c (P.Last (q + 1) m) C₂
+    place_last {C₂} i l g = record {
       last = λ e₁ n₁ h. let x : e₁ ≡ q + 1 = cc in let y : n₁ ≡ m = cc in rw (x, y) (goes c w f skipped 62 (sym byte ∙ i) (omega arith));
       more = λ e₁ n₁ h. let z : ◌≡◌ {A = ℕ} 0 1 = cc in absurd (omega arith);
       means = λ k h. with_object c w f (PlaceMeets s k at room C c (P.Last (q + 1) m) C₂) k h (λ x a u n p.
-          last-place x (ap (λ (t : ℕ). P.Last (q + 1) t) n) (places_last s at room k x e a (here skipped byte ∙ i) ∙ ap (λ (t : ℕ). got (x :: nil) (t + 1)) (sym skipped.is)) (place_put C c x 0 v u l p g));
+          last_place x (ap (λ (t : ℕ). P.Last (q + 1) t) n) (places_last s at room k x e a (here skipped byte ∙ i) ∙ ap (λ (t : ℕ). got (x :: nil) (t + 1)) (sym skipped.is)) (place_put C c x 0 v u l p g));
     }
 
     pub place_bad : {n : ℕ} → (b ≡ 62 → ⊥) → (b ≡ 44 → ⊥) → n ≡ refusal_of (word_at s q) → PlaceReading s at room C c (P.No n q) C₁
@@ -272,8 +272,8 @@ module _ {s : List ℕ} {at room : ℕ} {C : List ℕ} {c : ℕ} {r : ObjectRead
           no_place refl (places_bad s at room k x e a (λ t. i (sym (here skipped byte) ∙ t)) (λ t. o (sym (here skipped byte) ∙ t)) ∙ rw (← skipped.is, ← g)));
     }
 
-    pub place-more : {C₂ : List ℕ} → b ≡ 44 → length C₁ ≡ length C → C₂ ≡ cell_put C₁ c v (m + 1) → PlaceReading s at room C c (P.More (q + 1) m) C₂
-    place-more {C₂} i l g = record {
+    pub place_more : {C₂ : List ℕ} → b ≡ 44 → length C₁ ≡ length C → C₂ ≡ cell_put C₁ c v (m + 1) → PlaceReading s at room C c (P.More (q + 1) m) C₂
+    place_more {C₂} i l g = record {
       last = λ e₁ n₁ h. let z : ◌≡◌ {A = ℕ} 0 1 = cc in absurd (omega arith);
       more = λ e₁ n₁ h. let x : e₁ ≡ q + 1 = cc in let y : n₁ ≡ m = cc in rw (x, y) (goes c w f skipped 44 (sym byte ∙ i) (omega arith));
       means = λ k h. with_object c w f (PlaceMeets s k at room C c (P.More (q + 1) m) C₂) k h (λ x a u n p.
@@ -295,13 +295,13 @@ going_start h = record { low = omega arith; high = h; few = omega arith; many = 
 
 -- the first of the places that are left, and those behind it
 module _ (first n c : ℕ) (x : Obj) (C C₂ : List ℕ) (r : ObjectRead) (C' : List ℕ) where
-  place-then : length C₂ ≡ length C → ((c + 1 + cells_of x) * 4 ≤ length C → C₂ ≡ put C (c * 4) (place_cells c x (c + 1 + cells_of x + 1))) → (g : Got Objs) → PlacesMeet first (n + 1) (c + 1 + cells_of x) C₂ r C' g → PlacesMeet first n c C r C' (and_then g (λ xs e. got (x :: xs) e))
+  place_then : length C₂ ≡ length C → ((c + 1 + cells_of x) * 4 ≤ length C → C₂ ≡ put C (c * 4) (place_cells c x (c + 1 + cells_of x + 1))) → (g : Got Objs) → PlacesMeet first (n + 1) (c + 1 + cells_of x) C₂ r C' g → PlacesMeet first n c C r C' (and_then g (λ xs e. got (x :: xs) e))
   unfolding cells_from
-  place-then l h _ (not-read e) = not-read e
-  place-then l h _ (all_read {x = y} {xs = ys} {e = e} f p) =
+  place_then l h _ (not_read e) = not_read e
+  place_then l h _ (all_read {x = y} {xs = ys} {e = e} f p) =
       let d = c + 1 + cells_of x in
       let a = place_cells c x (d + 1) in
-      let n₁ = length-cells x (c + 1) in
+      let n₁ = length_cells x (c + 1) in
       let n₂ = length_places (y :: ys) d in
       let i : d * 4 ≡ c * 4 + length a = omega arith in
       let q₁ : n + 1 + suc (length_of ys) ≡ n + suc (suc (length_of ys)) = omega arith in
@@ -321,11 +321,11 @@ module _ {s : List ℕ} {from room used : ℕ} {C₀ C : List ℕ} {at c n : ℕ
   going_no {k} {p} e = record { ahead = no_ahead refl; all = g.means (O.No k p) C₂ (record { means = λ i h. by_calls (λ i. PlacesMeet used n c C (O.No k p) C₂ (read_objs i s at room)) (2 * (length s - at) + 1) i (omega arith) (λ j h₁. go j (w.means j h₁)) }) }
     where
       go : (j : ℕ) → PlaceMeets s j at room C c r C₂ → PlacesMeet used n c C (O.No k p) C₂ (read_objs (suc j) s at room)
-      go j (no_place f h) = rw h (not-read (no_same (sym e ∙ f)))
+      go j (no_place f h) = rw h (not_read (no_same (sym e ∙ f)))
         where
           no_same : {a b : ℕ} → P.No k p ≡ P.No a b → O.No k p ≡ O.No a b
           no_same t = cc
-      go j (last-place x f h i) = let z : ◌≡◌ {A = ℕ} 0 1 = cc in absurd (omega arith)
+      go j (last_place x f h i) = let z : ◌≡◌ {A = ℕ} 0 1 = cc in absurd (omega arith)
       go j (more_places x f h i) = let z : ◌≡◌ {A = ℕ} 0 1 = cc in absurd (omega arith)
 
   pub going_last : {e m : ℕ} {v : Val} → r ≡ P.Last e m → v ≡ sequence_val (used + 1) (n + 1) → PlacesReading s from room C₀ used (O.Got v e m) C₂
@@ -344,10 +344,10 @@ module _ {s : List ℕ} {from room used : ℕ} {C₀ C : List ℕ} {at c n : ℕ
     where
       go : (j : ℕ) → PlaceMeets s j at room C c r C₂ → PlacesMeet used n c C (O.Got v e m) C₂ (read_objs (suc j) s at room)
       go j (no_place a h) = let z : ◌≡◌ {A = ℕ} 0 1 = cc in absurd (omega arith)
-      go j (last-place x a h i) = rw h (last_meets used n c C C₂ v e m x (last-same (sym f ∙ a)).0 (last-same (sym f ∙ a)).1 q i)
+      go j (last_place x a h i) = rw h (last_meets used n c C C₂ v e m x (last_same (sym f ∙ a)).0 (last_same (sym f ∙ a)).1 q i)
         where
-          last-same : {a b : ℕ} → P.Last e m ≡ P.Last a b → (e ≡ a) × (m ≡ b)
-          last-same t = (cc, cc)
+          last_same : {a b : ℕ} → P.Last e m ≡ P.Last a b → (e ≡ a) × (m ≡ b)
+          last_same t = (cc, cc)
       go j (more_places x a h i) = let z : ◌≡◌ {A = ℕ} 0 1 = cc in absurd (omega arith)
 
   pub going_on : {e m : ℕ} → r ≡ P.More e m → length C₂ ≡ length C → Going s from room used C₀ C₂ e m (n + 1)
@@ -370,11 +370,11 @@ module _ {s : List ℕ} {from room used : ℕ} {C₀ C : List ℕ} {at c n : ℕ
     where
       go : (r' : ObjectRead) (C' : List ℕ) (j : ℕ) → PlaceMeets s j at room C c r C₂ → PlacesMeet used (n + 1) m C₂ r' C' (read_objs j s e room) → PlacesMeet used n c C r' C' (read_objs (suc j) s at room)
       go r' C' j (no_place a h) v = let z : ◌≡◌ {A = ℕ} 0 1 = cc in absurd (omega arith)
-      go r' C' j (last-place x a h i) v = let z : ◌≡◌ {A = ℕ} 0 1 = cc in absurd (omega arith)
+      go r' C' j (last_place x a h i) v = let z : ◌≡◌ {A = ℕ} 0 1 = cc in absurd (omega arith)
       go r' C' j (more_places x {e = e₁} a h i) v =
           let p : e ≡ e₁ = cc in
           let q : m ≡ c + 1 + cells_of x = cc in
-          rw (h, ← p) (place-then used n c x C C₂ r' C' l i (read_objs j s e room) (rw q at v))
+          rw (h, ← p) (place_then used n c x C C₂ r' C' l i (read_objs j s e room) (rw q at v))
 
 -- ---- a whole text
 module _ {s : List ℕ} {C : List ℕ} {used : ℕ} {r : ObjectRead} {C' : List ℕ} (w : ObjectReading s 0 32 C used r C') where
@@ -411,9 +411,9 @@ module _ {s : List ℕ} {C : List ℕ} {used : ℕ} {r : ObjectRead} {C' : List 
             let k : place_from s e₁ ≡ length s = ap (λ (t : ℕ). place_from s t) u ∙ sym skipped.is ∙ h in
             rw (eq-eqb (place_from s e₁) (length s) k) (reads {x = x} {e = place_from s e₁} (rw (y, n, u, ← skipped.is)) p)
 
-    pub whole-more : {n : ℕ} → (q ≡ length s → ⊥) → n ≡ refusal_of (word_at s q) → WholeReading s C used (O.No n q) C'
+    pub whole_more : {n : ℕ} → (q ≡ length s → ⊥) → n ≡ refusal_of (word_at s q) → WholeReading s C used (O.No n q) C'
     unfolding at_end refused
-    whole-more {n} h b = record { ends = λ v₁ e₁ n₁ t. let z : ◌≡◌ {A = ℕ} 0 1 = cc in absurd (omega arith); means = whole_is (O.No n q) (λ g i t. go g t) }
+    whole_more {n} h b = record { ends = λ v₁ e₁ n₁ t. let z : ◌≡◌ {A = ℕ} 0 1 = cc in absurd (omega arith); means = whole_is (O.No n q) (λ g i t. go g t) }
       where
         go : (g : Got Obj) → ReadMeets C used r C' g → ReadMeets C used (O.No n q) C' (and_then g (λ x e. at_end s x e))
         go _ (refuses a) = let z : ◌≡◌ {A = ℕ} 0 1 = cc in absurd (omega arith)

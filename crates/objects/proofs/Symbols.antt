@@ -6,7 +6,7 @@ use Rattle.language.specs.Judging.{is_symbol_byte}
 use Rattle.language.specs.Accepted.{IsSymbol}
 use Rattle.packing.specs.Packing.{packed}
 use Rattle.theorems.proofs.Texts.{all_weaken, digit_range, upper_range, or_cases}
-use Rattle.packing.proofs.Packed.{symbol-bytes}
+use Rattle.packing.proofs.Packed.{symbol_bytes}
 use Rattle.packing.specs.declared.Case.TheVariants.{Upper}
 use Rattle.packing.specs.Packing.{unpacked, Unpacked}
 use Rattle.packing.proofs.Packed.{symbol_back}
@@ -21,7 +21,7 @@ symbol_flat b h =
     (λ d. let r = digit_range b d in let hi = r.1 in flat_is b (λ e. omega arith) (λ e. omega arith)) h
 
 pub symbol_walk : {word n at cap : ℕ} {a a₁ : List ℕ} {r : Written} {out out' : List ℕ} → Unpacked Upper word n a a₁ → TextWalked (slice 0 n a₁) at cap r out out' → SymbolWalked word at cap r out out'
-symbol_walk {word} {n} {at} {cap} {a} {a₁} u w = record { within = w.within; means = λ d v i e. rw (same v i e) at (w.means d (rw (same v i e) (all_weaken is_symbol_byte is_flat symbol_flat v (symbol-bytes v i)))) }
+symbol_walk {word} {n} {at} {cap} {a} {a₁} u w = record { within = w.within; means = λ d v i e. rw (same v i e) at (w.means d (rw (same v i e) (all_weaken is_symbol_byte is_flat symbol_flat v (symbol_bytes v i)))) }
   where
     same : (v : List ℕ) → IsSymbol v → word ≡ packed v → slice 0 n a₁ ≡ v
     same v i e =

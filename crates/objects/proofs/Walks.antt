@@ -29,9 +29,9 @@ scan-append (x ∷ a) b d r = go (eqb x (code "<") && leb 32 d) (eqb r 0) (scan-
     go false true h = refl
     go false false h = h
 
-scan-deep : (l : List ℕ) (d r : ℕ) → 32 ≤ d → scan (60 ∷ l) d r ≡ deep
+scan_deep : (l : List ℕ) (d r : ℕ) → 32 ≤ d → scan (60 ∷ l) d r ≡ deep
 unfolding scan
-scan-deep l d r h = rw (le-leb 32 d h)
+scan_deep l d r h = rw (le-leb 32 d h)
 
 scan_full : (l : List ℕ) (d r : ℕ) → d < 32 → r ≡ 0 → scan (60 ∷ l) d r ≡ short
 unfolding scan
@@ -122,15 +122,15 @@ module _ {text : List ℕ} {at cap : ℕ} {r : Written} {out out' : List ℕ} wh
 
 -- ---- marks
 module _ {at cap : ℕ} {r : Written} {out out' : List ℕ} where
-  pub mark-long : (b : ℕ) (rest : List ℕ) (d d' : ℕ) → at ≡ cap → r ≡ W.Short → (b ≡ 60 → ⊥) → WalkedText (b ∷ rest) d d' at cap r out out'
-  mark-long b rest d d' l e o = too_long e (scan_out b rest d (cap - at) o (omega arith))
+  pub mark_long : (b : ℕ) (rest : List ℕ) (d d' : ℕ) → at ≡ cap → r ≡ W.Short → (b ≡ 60 → ⊥) → WalkedText (b ∷ rest) d d' at cap r out out'
+  mark_long b rest d d' l e o = too_long e (scan_out b rest d (cap - at) o (omega arith))
 
   pub mark_walk : (b d : ℕ) → at < cap → r ≡ W.Done (at + 1) → PutByte out at b out' → (b ≡ 60 → ⊥) → WalkedText (b ∷ []) d (open_behind b d) at cap r out out'
   unfolding scan
   mark_walk b d l e p o = fits e (omega arith) (scan_next b [] d (cap - at) o (omega arith) ∙ ap (λ (x : ℕ). on (open_behind b d) x) (omega arith)) p.is
 
   pub open_deep : (rest : List ℕ) (d d' : ℕ) → 32 ≤ d → r ≡ W.Deep → WalkedText (60 ∷ rest) d d' at cap r out out'
-  open_deep rest d d' h e = too_deep e (scan-deep rest d (cap - at) h)
+  open_deep rest d d' h e = too_deep e (scan_deep rest d (cap - at) h)
 
   pub open_long : (rest : List ℕ) (d d' : ℕ) → d < 32 → at ≡ cap → r ≡ W.Short → WalkedText (60 ∷ rest) d d' at cap r out out'
   open_long rest d d' h l e = too_long e (scan_full rest d (cap - at) h (omega arith))
@@ -140,14 +140,14 @@ module _ {at cap : ℕ} {r : Written} {out out' : List ℕ} where
   open_walk d h l e p = fits e (omega arith) (scan_open [] d (cap - at) h (omega arith) ∙ ap (λ (x : ℕ). on (d + 1) x) (omega arith)) p.is
 
 -- ---- bounds
-pub within-short : {at cap : ℕ} {r : Written} → r ≡ W.Short → Within at cap r
-within-short e = record { ends = λ x f. let z : ◌≡◌ {A = ℕ} 0 1 = cc in absurd (omega arith) }
+pub within_short : {at cap : ℕ} {r : Written} → r ≡ W.Short → Within at cap r
+within_short e = record { ends = λ x f. let z : ◌≡◌ {A = ℕ} 0 1 = cc in absurd (omega arith) }
 
-pub within-deep : {at cap : ℕ} {r : Written} → r ≡ W.Deep → Within at cap r
-within-deep e = record { ends = λ x f. let z : ◌≡◌ {A = ℕ} 0 1 = cc in absurd (omega arith) }
+pub within_deep : {at cap : ℕ} {r : Written} → r ≡ W.Deep → Within at cap r
+within_deep e = record { ends = λ x f. let z : ◌≡◌ {A = ℕ} 0 1 = cc in absurd (omega arith) }
 
-pub within-done : {at cap : ℕ} {r : Written} (e : ℕ) → r ≡ W.Done e → at ≤ e → e ≤ cap → Within at cap r
-within-done e f l h = record { ends = λ x g. let z : x ≡ e = cc in (omega arith, omega arith) }
+pub within_done : {at cap : ℕ} {r : Written} (e : ℕ) → r ≡ W.Done e → at ≤ e → e ≤ cap → Within at cap r
+within_done e f l h = record { ends = λ x g. let z : x ≡ e = cc in (omega arith, omega arith) }
 
-pub within-later : {at at₁ cap : ℕ} {r : Written} → at ≤ at₁ → Within at₁ cap r → Within at cap r
-within-later l w = record { ends = λ x g. let z = w.ends x g in (omega (arith, z.0), z.1) }
+pub within_later : {at at₁ cap : ℕ} {r : Written} → at ≤ at₁ → Within at₁ cap r → Within at cap r
+within_later l w = record { ends = λ x g. let z = w.ends x g in (omega (arith, z.0), z.1) }

@@ -7,29 +7,29 @@ use Rattle.language.specs.Tokens.{is_digit}
 use Rattle.language.specs.Writing.{decimal, write_integer, write_obj, write_objs, Scan, on, short, deep, scan, open_behind}
 use Rattle.language.specs.declared.Val.{Val}
 use Rattle.theorems.proofs.Texts.{all_weaken, digit_range}
-use Rattle.theorems.proofs.Decimals.{decimal-digits}
+use Rattle.theorems.proofs.Decimals.{decimal_digits}
 use Rattle.tables.specs.Tables.{put}
 use Rattle.cells.specs.Cells.{Rep, rep_pos, rep_neg, rep_symbol, rep_nil, rep_more}
 use Rattle.cells.specs.Parts.{Sized, Headed, Tailed}
-use Rattle.objects.specs.Writings.{DigitsAt, PutByte, PutText, WalkedText, fits, too_long, too_deep, is_flat, TextWalked, MarkWalked, DecimalWalked, SymbolWalked, AtomWalked, ObjectWalked, PlaceWalked, PlacesWalked, output_room, ObjectEnd, object-written, no_room, no_mark, ObjectWritten}
+use Rattle.objects.specs.Writings.{DigitsAt, PutByte, PutText, WalkedText, fits, too_long, too_deep, is_flat, TextWalked, MarkWalked, DecimalWalked, SymbolWalked, AtomWalked, ObjectWalked, PlaceWalked, PlacesWalked, output_room, ObjectEnd, object_written, no_room, no_mark, ObjectWritten}
 use Rattle.objects.specs.declared.Written.{Written}
 use Rattle.objects.specs.declared.Written.TheVariants as W
-use Rattle.objects.proofs.Walks.{flat_is, walk_short, walk_deep, walk_then, flat_long, flat_walk, mark-long, mark_walk, open_deep, open_long, open_walk, within-short, within-deep, within-done, within-later}
+use Rattle.objects.proofs.Walks.{flat_is, walk_short, walk_deep, walk_then, flat_long, flat_walk, mark_long, mark_walk, open_deep, open_long, open_walk, within_short, within_deep, within_done, within_later}
 
 -- ---- texts without marks
 module _ (text : List ℕ) (from to : ℕ) {at cap : ℕ} {out out' : List ℕ} where
-  pub text-short : (at ≤ cap) × (from ≤ to) × (to ≤ length text) → cap - at < to - from → TextWalked (slice from to text) at cap W.Short out out'
-  text-short k h =
+  pub text_short : (at ≤ cap) × (from ≤ to) × (to ≤ length text) → cap - at < to - from → TextWalked (slice from to text) at cap W.Short out out'
+  text_short k h =
       let l = k.0 in
       let n = length-slice from to text k.2 in
-      record { within = within-short refl; means = λ d f. flat_long l (omega arith) refl d f }
+      record { within = within_short refl; means = λ d f. flat_long l (omega arith) refl d f }
 
-  pub text-done : (at ≤ cap) × (from ≤ to) × (to ≤ length text) → to - from ≤ cap - at → PutText out at (slice from to text) out' → TextWalked (slice from to text) at cap (W.Done (at + (to - from))) out out'
-  text-done k h p =
+  pub text_done : (at ≤ cap) × (from ≤ to) × (to ≤ length text) → to - from ≤ cap - at → PutText out at (slice from to text) out' → TextWalked (slice from to text) at cap (W.Done (at + (to - from))) out out'
+  text_done k h p =
       let l = k.0 in
       let n = length-slice from to text k.2 in
       record {
-        within = within-done (at + (to - from)) refl (omega arith) (omega arith);
+        within = within_done (at + (to - from)) refl (omega arith) (omega arith);
         means = λ d f. flat_walk l (omega arith) (ap (λ (x : ℕ). W.Done (at + x)) (sym n)) p.is d f;
       }
 
@@ -39,13 +39,13 @@ digit_flat b h = let r = digit_range b h in flat_is b (λ e. omega (arith, r.1))
 pub decimal_walk : {n first at cap : ℕ} {a : List ℕ} {r : Written} {out out' : List ℕ} → DigitsAt n first a → length a ≡ 20 → TextWalked (slice first 20 a) at cap r out out' → DecimalWalked n at cap r out out'
 decimal_walk {n} {first} {at} {cap} {a} {r} {out} {out'} ds l w =
     let e : slice first 20 a ≡ decimal n = ap (λ (x : List ℕ). drop first x) (take_all 20 a (omega arith)) ∙ ds.is in
-    record { within = w.within; means = λ d. rw e at (w.means d (rw e (all_weaken is_digit is_flat digit_flat (decimal n) (decimal-digits n)))) }
+    record { within = w.within; means = λ d. rw e at (w.means d (rw e (all_weaken is_digit is_flat digit_flat (decimal n) (decimal_digits n)))) }
 
 -- ---- atoms
 module _ {v : Val} {at cap : ℕ} where
-  pub atom-symbol : {r : Written} {out out' : List ℕ} → v.tag ≡ 2 → SymbolWalked v.word at cap r out out' → AtomWalked v at cap r out out'
+  pub atom_symbol : {r : Written} {out out' : List ℕ} → v.tag ≡ 2 → SymbolWalked v.word at cap r out out' → AtomWalked v at cap r out out'
   unfolding write_obj
-  atom-symbol {r} {out} {out'} t w = record { within = w.within; means = λ d C n x o rep. go d C n x rep }
+  atom_symbol {r} {out} {out'} t w = record { within = w.within; means = λ d C n x o rep. go d C n x rep }
     where
       go : (d : ℕ) (C : List ℕ) (n : ℕ) (x : Obj) → Rep C n v x → WalkedText (write_obj x) d d at cap r out out'
       go d C n x (rep_pos e f l) = absurd (omega arith)
@@ -54,9 +54,9 @@ module _ {v : Val} {at cap : ℕ} where
       go d C n x (rep_nil e f) = absurd (omega arith)
       go d C n x (rep_more e f l a b) = absurd (omega arith)
 
-  pub atom-number : {r : Written} {out out' : List ℕ} → v.tag ≡ 0 → DecimalWalked v.word at cap r out out' → AtomWalked v at cap r out out'
+  pub atom_number : {r : Written} {out out' : List ℕ} → v.tag ≡ 0 → DecimalWalked v.word at cap r out out' → AtomWalked v at cap r out out'
   unfolding write_obj write_integer
-  atom-number {r} {out} {out'} t w = record { within = w.within; means = λ d C n x o rep. go d C n x rep }
+  atom_number {r} {out} {out'} t w = record { within = w.within; means = λ d C n x o rep. go d C n x rep }
     where
       go : (d : ℕ) (C : List ℕ) (n : ℕ) (x : Obj) → Rep C n v x → WalkedText (write_obj x) d d at cap r out out'
       go d C n x (rep_pos e f l) = rw f at (w.means d)
@@ -67,18 +67,18 @@ module _ {v : Val} {at cap : ℕ} where
 
   pub atom_full : {out out' : List ℕ} → (v.tag ≡ 2 → ⊥) → (v.tag ≡ 0 → ⊥) → at ≡ cap → AtomWalked v at cap W.Short out out'
   unfolding write_obj write_integer
-  atom_full {out} {out'} t u l = record { within = within-short refl; means = λ d C n x o rep. go d C n x o rep }
+  atom_full {out} {out'} t u l = record { within = within_short refl; means = λ d C n x o rep. go d C n x o rep }
     where
       go : (d : ℕ) (C : List ℕ) (n : ℕ) (x : Obj) → (v.tag ≡ 3 → ⊥) → Rep C n v x → WalkedText (write_obj x) d d at cap W.Short out out'
       go d C n x o (rep_pos e f _) = absurd (u e)
-      go d C n x o (rep_neg {k = k} e f _) = mark-long 45 (decimal (suc k)) d d l refl (λ z. omega arith)
+      go d C n x o (rep_neg {k = k} e f _) = mark_long 45 (decimal (suc k)) d d l refl (λ z. omega arith)
       go d C n x o (rep_symbol e i f) = absurd (t e)
       go d C n x o (rep_nil e f) = absurd (o e)
       go d C n x o (rep_more e f _ a b) = absurd (o e)
 
   pub atom_negative : {k : ℕ} {r : Written} {out out₁ out₂ : List ℕ} → (v.tag ≡ 2 → ⊥) → (v.tag ≡ 0 → ⊥) → at ≤ cap → (at ≡ cap → ⊥) → PutByte out at 45 out₁ → length out₁ ≡ length out → k ≡ (v.word + 1) % 2 ^ 64 → DecimalWalked k (at + 1) cap r out₁ out₂ → AtomWalked v at cap r out out₂
   unfolding write_obj write_integer
-  atom_negative {k} {r} {out} {out₁} {out₂} t u le ne p n h w = record { within = within-later (omega arith) w.within; means = λ d C n x o rep. go d C n x o rep }
+  atom_negative {k} {r} {out} {out₁} {out₂} t u le ne p n h w = record { within = within_later (omega arith) w.within; means = λ d C n x o rep. go d C n x o rep }
     where
       l : at < cap
       l = omega arith
@@ -107,16 +107,16 @@ module _ {C : List ℕ} {v : Val} {at cap opened : ℕ} where
 
   pub obj_deep : {out out' : List ℕ} → v.tag ≡ 3 → 32 ≤ opened → ObjectWalked C v at cap opened W.Deep out out'
   unfolding write_obj
-  obj_deep {out} {out'} t h = record { within = within-deep refl; means = sequence_is (λ x. WalkedText (write_obj x) opened opened at cap W.Deep out out') t (λ n xs u rep. open_deep (write_objs xs) opened opened h refl) }
+  obj_deep {out} {out'} t h = record { within = within_deep refl; means = sequence_is (λ x. WalkedText (write_obj x) opened opened at cap W.Deep out out') t (λ n xs u rep. open_deep (write_objs xs) opened opened h refl) }
 
   pub obj_full : {out out' : List ℕ} → v.tag ≡ 3 → opened < 32 → at ≡ cap → ObjectWalked C v at cap opened W.Short out out'
   unfolding write_obj
-  obj_full {out} {out'} t h l = record { within = within-short refl; means = sequence_is (λ x. WalkedText (write_obj x) opened opened at cap W.Short out out') t (λ n xs u rep. open_long (write_objs xs) opened opened h l refl) }
+  obj_full {out} {out'} t h l = record { within = within_short refl; means = sequence_is (λ x. WalkedText (write_obj x) opened opened at cap W.Short out out') t (λ n xs u rep. open_long (write_objs xs) opened opened h l refl) }
 
   pub obj_empty : {k : ℕ} {r : Written} {out out₁ out₂ : List ℕ} → v.tag ≡ 3 → opened < 32 → at ≤ cap → (at ≡ cap → ⊥) → PutByte out at 60 out₁ → length out₁ ≡ length out → Sized v k → k ≡ 0 → MarkWalked 62 (at + 1) cap r out₁ out₂ → ObjectWalked C v at cap opened r out out₂
   unfolding write_obj
   obj_empty {k} {r} {out} {out₁} {out₂} t h le ne p n s z w = record {
-    within = within-later (omega arith) w.within;
+    within = within_later (omega arith) w.within;
     means = sequence_is (λ x. WalkedText (write_obj x) opened opened at cap r out out₂) t (λ m xs u rep. go m xs u rep (s.means C m xs u rep));
   }
     where
@@ -133,7 +133,7 @@ module _ {C : List ℕ} {v : Val} {at cap opened : ℕ} where
   pub obj_places : {k : ℕ} {r : Written} {out out₁ out₂ : List ℕ} → v.tag ≡ 3 → opened < 32 → at ≤ cap → (at ≡ cap → ⊥) → PutByte out at 60 out₁ → length out₁ ≡ length out → Sized v k → (k ≡ 0 → ⊥) → PlacesWalked C v (at + 1) cap (opened + 1) r out₁ out₂ → ObjectWalked C v at cap opened r out out₂
   unfolding write_obj
   obj_places {k} {r} {out} {out₁} {out₂} t h le ne p n s z w = record {
-    within = within-later (omega arith) w.within;
+    within = within_later (omega arith) w.within;
     means = sequence_is (λ x. WalkedText (write_obj x) opened opened at cap r out out₂) t (λ m xs u rep. go m xs u rep (s.means C m xs u rep));
   }
     where
@@ -148,19 +148,19 @@ module _ {C : List ℕ} {v : Val} {at cap opened : ℕ} where
       go m (x :: xs) u rep e = walk_then (open_walk opened h l refl p) refl n (rw back at (w.means m x xs u rep))
 
 -- ---- a place
-pub place-fits : {C : List ℕ} {h : Val} {at cap opened e : ℕ} {r : Written} {out out₁ : List ℕ} → ObjectWalked C h at cap opened r out out₁ → r ≡ W.Done e → e ≤ cap
-place-fits {e = e} w f = (w.within.ends e f).1
+pub place_fits : {C : List ℕ} {h : Val} {at cap opened e : ℕ} {r : Written} {out out₁ : List ℕ} → ObjectWalked C h at cap opened r out out₁ → r ≡ W.Done e → e ≤ cap
+place_fits {e = e} w f = (w.within.ends e f).1
 
 module _ {C : List ℕ} {v h : Val} {at cap opened b : ℕ} {r : Written} {out out₁ : List ℕ} where
   pub place_short : Headed C v h → ObjectWalked C h at cap opened r out out₁ → r ≡ W.Short → PlaceWalked C v at cap opened b W.Short out out₁
-  place_short d w e = record { within = within-short refl; means = λ n x xs u o rep. walk_short (b ∷ []) (open_behind b opened) (w.means n x u (d.means n x xs u rep)) e refl }
+  place_short d w e = record { within = within_short refl; means = λ n x xs u o rep. walk_short (b ∷ []) (open_behind b opened) (w.means n x u (d.means n x xs u rep)) e refl }
 
-  pub place-deep : Headed C v h → ObjectWalked C h at cap opened r out out₁ → r ≡ W.Deep → PlaceWalked C v at cap opened b W.Deep out out₁
-  place-deep d w e = record { within = within-deep refl; means = λ n x xs u o rep. walk_deep (b ∷ []) (open_behind b opened) (w.means n x u (d.means n x xs u rep)) e refl }
+  pub place_deep : Headed C v h → ObjectWalked C h at cap opened r out out₁ → r ≡ W.Deep → PlaceWalked C v at cap opened b W.Deep out out₁
+  place_deep d w e = record { within = within_deep refl; means = λ n x xs u o rep. walk_deep (b ∷ []) (open_behind b opened) (w.means n x u (d.means n x xs u rep)) e refl }
 
-  pub place-done : {e : ℕ} {r₂ : Written} {out₂ : List ℕ} → Headed C v h → ObjectWalked C h at cap opened r out out₁ → r ≡ W.Done e → length out₁ ≡ length out → MarkWalked b e cap r₂ out₁ out₂ → PlaceWalked C v at cap opened b r₂ out out₂
-  place-done {e} d w f l m = record {
-    within = within-later (w.within.ends e f).0 m.within;
+  pub place_done : {e : ℕ} {r₂ : Written} {out₂ : List ℕ} → Headed C v h → ObjectWalked C h at cap opened r out out₁ → r ≡ W.Done e → length out₁ ≡ length out → MarkWalked b e cap r₂ out₁ out₂ → PlaceWalked C v at cap opened b r₂ out out₂
+  place_done {e} d w f l m = record {
+    within = within_later (w.within.ends e f).0 m.within;
     means = λ n x xs u o rep. walk_then (w.means n x u (d.means n x xs u rep)) f l (m.means opened o);
   }
 
@@ -212,14 +212,14 @@ module _ {C : List ℕ} {v : Val} {out₀ : List ℕ} {from cap opened : ℕ} wh
         }
 
     pub places_short : {r : Written} {out₁ : List ℕ} → 1 < left → PlaceWalked C s at cap opened 44 r out out₁ → r ≡ W.Short → PlacesWalked C v from cap opened W.Short out₀ out₁
-    places_short {r} {out₁} h w f = record { within = within-short refl; means = λ n x xs u rep. more_left n (x :: xs) u h w (WalkedText (write_objs (x :: xs)) opened (opened - 1) from cap W.Short out₀ out₁) (g.means n x xs u rep) (λ y z zs rep₁ size walked k. k W.Short out₁ (walk_short (write_objs (z :: zs)) (opened - 1) walked f refl)) }
+    places_short {r} {out₁} h w f = record { within = within_short refl; means = λ n x xs u rep. more_left n (x :: xs) u h w (WalkedText (write_objs (x :: xs)) opened (opened - 1) from cap W.Short out₀ out₁) (g.means n x xs u rep) (λ y z zs rep₁ size walked k. k W.Short out₁ (walk_short (write_objs (z :: zs)) (opened - 1) walked f refl)) }
 
     pub places_deep : {r : Written} {out₁ : List ℕ} → 1 < left → PlaceWalked C s at cap opened 44 r out out₁ → r ≡ W.Deep → PlacesWalked C v from cap opened W.Deep out₀ out₁
-    places_deep {r} {out₁} h w f = record { within = within-deep refl; means = λ n x xs u rep. more_left n (x :: xs) u h w (WalkedText (write_objs (x :: xs)) opened (opened - 1) from cap W.Deep out₀ out₁) (g.means n x xs u rep) (λ y z zs rep₁ size walked k. k W.Deep out₁ (walk_deep (write_objs (z :: zs)) (opened - 1) walked f refl)) }
+    places_deep {r} {out₁} h w f = record { within = within_deep refl; means = λ n x xs u rep. more_left n (x :: xs) u h w (WalkedText (write_objs (x :: xs)) opened (opened - 1) from cap W.Deep out₀ out₁) (g.means n x xs u rep) (λ y z zs rep₁ size walked k. k W.Deep out₁ (walk_deep (write_objs (z :: zs)) (opened - 1) walked f refl)) }
 
     pub places_end : {r : Written} {out₁ : List ℕ} → left ≤ 1 → PlaceWalked C s at cap opened 62 r out out₁ → PlacesWalked C v from cap opened r out₀ out₁
     unfolding write_obj
-    places_end {r} {out₁} h w = record { within = within-later g.low w.within; means = λ n x xs u rep. go n (x :: xs) u (g.means n x xs u rep) }
+    places_end {r} {out₁} h w = record { within = within_later g.low w.within; means = λ n x xs u rep. go n (x :: xs) u (g.means n x xs u rep) }
       where
         go : (n : ℕ) (xs : Objs) → n < 4294967296 → Rest C n xs out₀ from cap opened left s at out → WalkedText (write_objs xs) opened (opened - 1) from cap r out₀ out₁
         go n xs u q = last q.y q.ys q.rep q.size q.so_far
@@ -233,8 +233,8 @@ measured : (cap : ℕ) {y : Scan} (x : Obj) → scan (write_obj x) 0 (cap - 0) �
 measured cap x s = ap (λ (q : ℕ). scan (write_obj x) 0 q) (sym (sub-zero cap)) ∙ s
 
 -- a part of the output up to its room has that many bytes
-pub room-part : (cap : ℕ) (out : List ℕ) → cap ≡ output_room (length out) → length (take cap out) ≡ cap
-room-part cap out h = length-take-le cap out (omega arith)
+pub room_part : (cap : ℕ) (out : List ℕ) → cap ≡ output_room (length out) → length (take cap out) ≡ cap
+room_part cap out h = length-take-le cap out (omega arith)
 
 -- the walk that measures may write to no byte
 no_bytes : (a : List ℕ) → length a ≡ 0 → a ≡ []
@@ -243,7 +243,7 @@ no_bytes (b ∷ a) h = absurd (omega arith)
 
 module _ {C : List ℕ} {v : Val} {cap : ℕ} {r₁ : Written} {none none₁ out : List ℕ} (empty : length none₁ ≡ 0) where
   pub write_short : cap ≡ output_room (length out) → ObjectWalked C v 0 cap 0 r₁ none none₁ → r₁ ≡ W.Short → ObjectWritten C v W.Short out (none₁ ++ out)
-  write_short c w e = record { within = within-short refl; means = λ n x u rep. rw (← c, no_bytes none₁ empty) (go x (w.means n x u rep)) }
+  write_short c w e = record { within = within_short refl; means = λ n x u rep. rw (← c, no_bytes none₁ empty) (go x (w.means n x u rep)) }
     where
       go : (x : Obj) → WalkedText (write_obj x) 0 0 0 cap r₁ none none₁ → ObjectEnd (write_obj x) W.Short out out (scan (write_obj x) 0 cap)
       go x (fits f l s p) = let z : ◌≡◌ {A = ℕ} 0 1 = cc in absurd (omega arith)
@@ -251,7 +251,7 @@ module _ {C : List ℕ} {v : Val} {cap : ℕ} {r₁ : Written} {none none₁ out
       go x (too_deep f s) = let z : ◌≡◌ {A = ℕ} 0 1 = cc in absurd (omega arith)
 
   pub write_deep : cap ≡ output_room (length out) → ObjectWalked C v 0 cap 0 r₁ none none₁ → r₁ ≡ W.Deep → ObjectWritten C v W.Deep out (none₁ ++ out)
-  write_deep c w e = record { within = within-deep refl; means = λ n x u rep. rw (← c, no_bytes none₁ empty) (go x (w.means n x u rep)) }
+  write_deep c w e = record { within = within_deep refl; means = λ n x u rep. rw (← c, no_bytes none₁ empty) (go x (w.means n x u rep)) }
     where
       go : (x : Obj) → WalkedText (write_obj x) 0 0 0 cap r₁ none none₁ → ObjectEnd (write_obj x) W.Deep out out (scan (write_obj x) 0 cap)
       go x (fits f l s p) = let z : ◌≡◌ {A = ℕ} 0 1 = cc in absurd (omega arith)
@@ -262,7 +262,7 @@ module _ {C : List ℕ} {v : Val} {cap : ℕ} {r₁ : Written} {none none₁ out
   unfolding put
   write_done {e} {r₂} {out₂} c w f w₂ =
       let b = w.within.ends e f in
-      record { within = within-done e refl b.0 (rw (← c) b.1); means = λ n x u rep. rw (← c) (go x (w.means n x u rep) (rw (no_bytes none₁ empty) at (w₂.means n x u rep))) }
+      record { within = within_done e refl b.0 (rw (← c) b.1); means = λ n x u rep. rw (← c) (go x (w.means n x u rep) (rw (no_bytes none₁ empty) at (w₂.means n x u rep))) }
     where
       text_put : (t : List ℕ) → put out 0 t ≡ t ++ drop (length t) out
       text_put t = rw zero-add
@@ -280,4 +280,4 @@ module _ {C : List ℕ} {v : Val} {cap : ℕ} {r₁ : Written} {none none₁ out
           apart h = cc
       go x (fits g l s p) (fits g₂ l₂ s₂ p₂) =
           let i : e ≡ 0 + length (write_obj x) = cc in
-          rw (measured cap x s) (object-written (ap W.Done (i ∙ zero-add (length (write_obj x)))) (p₂ (omega arith) ∙ text_put (write_obj x)))
+          rw (measured cap x s) (object_written (ap W.Done (i ∙ zero-add (length (write_obj x)))) (p₂ (omega arith) ∙ text_put (write_obj x)))

@@ -42,7 +42,7 @@ place_cells at-cell x next = cell (val_of (at-cell + 1) x) next ++ cells_from (a
 
 pub data PlaceMeets (s : List ℕ) (k at room : ℕ) (C : List ℕ) (at-cell : ℕ) (r : PlaceRead) (C' : List ℕ) : Type 0 where
   no_place : {n p : ℕ} → r ≡ P.No n p → read_objs (suc k) s at room ≡ no n p → PlaceMeets s k at room C at-cell r C'
-  last-place : (x : Obj) {e : ℕ} → r ≡ P.Last e (at-cell + 1 + cells_of x) → read_objs (suc k) s at room ≡ got (x :: nil) e
+  last_place : (x : Obj) {e : ℕ} → r ≡ P.Last e (at-cell + 1 + cells_of x) → read_objs (suc k) s at room ≡ got (x :: nil) e
       → ((at-cell + 1 + cells_of x) * 4 ≤ length C → C' ≡ put C (at-cell * 4) (place_cells at-cell x 0)) → PlaceMeets s k at room C at-cell r C'
   more_places : (x : Obj) {e : ℕ} → r ≡ P.More e (at-cell + 1 + cells_of x) → read_objs (suc k) s at room ≡ and_then (read_objs k s e room) (λ xs e. got (x :: xs) e)
       → ((at-cell + 1 + cells_of x) * 4 ≤ length C → C' ≡ put C (at-cell * 4) (place_cells at-cell x (at-cell + 1 + cells_of x + 1))) → PlaceMeets s k at room C at-cell r C'
@@ -56,7 +56,7 @@ pub record PlaceReading (s : List ℕ) (at room : ℕ) (C : List ℕ) (at-cell :
 pub data PlacesMeet (first n at-cell : ℕ) (C : List ℕ) (r : ObjectRead) (C' : List ℕ) : Got Objs → Type 0 where
   all_read : {x : Obj} {xs : Objs} {e : ℕ} → r ≡ O.Got (sequence_val (first + 1) (n + suc (length_of xs))) e (at-cell + cells_of_all (x :: xs))
       → ((at-cell + cells_of_all (x :: xs)) * 4 ≤ length C → C' ≡ put C (at-cell * 4) (places_from at-cell (x :: xs))) → PlacesMeet first n at-cell C r C' (got (x :: xs) e)
-  not-read : {k p : ℕ} → r ≡ O.No k p → PlacesMeet first n at-cell C r C' (no k p)
+  not_read : {k p : ℕ} → r ≡ O.No k p → PlacesMeet first n at-cell C r C' (no k p)
 
 pub record PlacesFrom (s : List ℕ) (at room first n at-cell : ℕ) (C : List ℕ) (r : ObjectRead) (C' : List ℕ) : Type 0 where
   pub means : (k : ℕ) → 2 * (length s - at) + 2 ≤ k → PlacesMeet first n at-cell C r C' (read_objs k s at room)

@@ -79,7 +79,7 @@ output_room n = min n written_limit
 
 -- The text stands in front and the rest of the output is as it was; or nothing has changed.
 pub data ObjectEnd (text : List ℕ) (r : Written) (out out' : List ℕ) : Scan → Type 0 where
-  object-written : {d room : ℕ} → r ≡ W.Done (length text) → out' ≡ text ++ drop (length text) out → ObjectEnd text r out out' (on d room)
+  object_written : {d room : ℕ} → r ≡ W.Done (length text) → out' ≡ text ++ drop (length text) out → ObjectEnd text r out out' (on d room)
   no_room : r ≡ W.Short → out' ≡ out → ObjectEnd text r out out' short
   no_mark : r ≡ W.Deep → out' ≡ out → ObjectEnd text r out out' deep
 

@@ -26,8 +26,8 @@ unfolding packed letter_of
 packed_lt [] = omega arith
 packed_lt (b ∷ w) = let h = packed_lt w in rw (pow-suc 37 (length w)) (omega arith)
 
-packed-room : (w : List ℕ) → length w < 12 → packed w * 37 + 37 ≤ 37 ^ 12
-packed-room w h =
+packed_room : (w : List ℕ) → length w < 12 → packed w * 37 + 37 ≤ 37 ^ 12
+packed_room w h =
     let p = pow-le-pow_right {n = 37} (omega arith) {i = suc (length w)} {j = 12} (omega arith) in
     let q = packed_lt w in
     let e = pow-suc 37 (length w) in
@@ -45,8 +45,8 @@ module _ (s : List ℕ) (to : ℕ) (fits : to ≤ length s) where
   pub packed_turn : (i j : ℕ) → i ≡ j + 1 → i ≤ to → packed (slice j to s) ≡ packed (slice i to s) * 37 + letter_of (get_or s j 0)
   packed_turn i j e h = rw (slice_first s j to (omega arith) fits, e) (step (get_or s j 0) (slice (j + 1) to s))
 
-  pub packed-fits : (from i j : ℕ) → i ≡ j + 1 → i ≤ to → from ≤ j → to ≤ from + 12 → packed (slice i to s) * 37 + 37 ≤ 37 ^ 12
-  packed-fits from i j e h f n = packed-room (slice i to s) (rw (length-slice i to s fits) (omega arith))
+  pub packed_fits : (from i j : ℕ) → i ≡ j + 1 → i ≤ to → from ≤ j → to ≤ from + 12 → packed (slice i to s) * 37 + 37 ≤ 37 ^ 12
+  packed_fits from i j e h f n = packed_room (slice i to s) (rw (length-slice i to s fits) (omega arith))
 
 -- the bytes of a case: letters behind `letter_base`, or digits
 either : (x y : Bool) → x || y ≡ true → (x ≡ true) ⊎ (y ≡ true)
@@ -108,8 +108,8 @@ module _ (case : Case) where
       rw (unpacked-suc k (packed w * 37 + letter_of b) (λ z. omega arith), d, m, l.back, back_from k w e.1 (omega arith))
 
   -- a word of the case's bytes comes back
-  pub unpacked-packed : (w : List ℕ) → all (in_case case) w ≡ true → length w ≤ 12 → unpacked case (packed w) ≡ w
-  unpacked-packed w h n = back_from 12 w h n
+  pub unpacked_packed : (w : List ℕ) → all (in_case case) w ≡ true → length w ≤ 12 → unpacked case (packed w) ≡ w
+  unpacked_packed w h n = back_from 12 w h n
 
 or_left : (x y : Bool) → x ≡ true → x || y ≡ true
 or_left x y h = rw h
@@ -117,18 +117,18 @@ or_left x y h = rw h
 -- so symbols come back in upper case, and names in lower case
 pub symbol_back : (w : List ℕ) → IsSymbol w → unpacked Upper (packed w) ≡ w
 symbol_back [] h = absurd h
-symbol_back (b ∷ w) h = unpacked-packed Upper (b ∷ w) (rw (or_left (is_upper b) (is_digit b) h.0) h.1) h.2
+symbol_back (b ∷ w) h = unpacked_packed Upper (b ∷ w) (rw (or_left (is_upper b) (is_digit b) h.0) h.1) h.2
 
 pub name_back : (w : List ℕ) → IsName w → unpacked Lower (packed w) ≡ w
 name_back [] h = absurd h
-name_back (b ∷ w) h = unpacked-packed Lower (b ∷ w) (rw (or_left (is_lower b) (is_digit b) h.0) h.1) h.2
+name_back (b ∷ w) h = unpacked_packed Lower (b ∷ w) (rw (or_left (is_lower b) (is_digit b) h.0) h.1) h.2
 
 pub symbols_same : (v w : List ℕ) → IsSymbol v → IsSymbol w → packed v ≡ packed w → v ≡ w
 symbols_same v w i j e = sym (symbol_back v i) ∙ (ap (unpacked Upper) e ∙ symbol_back w j)
 
-pub symbol-bytes : (w : List ℕ) → IsSymbol w → all is_symbol_byte w ≡ true
-symbol-bytes [] i = absurd i
-symbol-bytes (b ∷ w) i = rw (i.0, i.1)
+pub symbol_bytes : (w : List ℕ) → IsSymbol w → all is_symbol_byte w ≡ true
+symbol_bytes [] i = absurd i
+symbol_bytes (b ∷ w) i = rw (i.0, i.1)
 
 pub names_equal : (v w : List ℕ) → IsName v → IsName w → packed v ≡ packed w → v ≡ w
 names_equal v w i j e = sym (name_back v i) ∙ ap (unpacked Lower) e ∙ name_back w j

@@ -8,12 +8,12 @@ use native.Mathlib.Nat.{mul-le-mul}
 use lib.Dec.{ltb}
 use lib.ListN.{get_or}
 use borrow.Author.Tests.{ltb-true, ltb-false}
-use Rattle.language.specs.Words.{Op, CellRule, no_cell, one_Cell, n_less_1, n_cells, n_and_1, three_n, m_and_m_times_n, entry, cells_by}
+use Rattle.language.specs.Words.{Op, CellRule, no_cell, one_cell, n_less_1, n_cells, n_and_1, three_n, m_and_m_times_n, entry, cells_by}
 use Rattle.language.specs.Charging.{cells_charge, cells_taken}
 use Rattle.language.specs.declared.Meter.{Meter}
 use Rattle.language.specs.declared.Charge.{Charge}
 use Rattle.language.specs.declared.Charge.TheVariants.{Granted, Spent}
-use Rattle.language.proofs.Charging.{meter_same, cells_granted, cells-spent}
+use Rattle.language.proofs.Charging.{meter_same, cells_granted, cells_spent}
 use Rattle.cells.specs.Cells.{Room, free}
 use Rattle.cells.proofs.Reps.{free_is}
 use Rattle.lexer.specs.Vocabulary.{op_code, rule_code, rule_at}
@@ -24,12 +24,12 @@ use Rattle.primitives.proofs.Ending.{free_low}
 
 -- ---- the rules by their codes
 rule_of : ℕ → CellRule
-rule_of code = get_or (no_cell ∷ one_Cell ∷ n_less_1 ∷ n_cells ∷ n_and_1 ∷ three_n ∷ m_and_m_times_n ∷ []) code no_cell
+rule_of code = get_or (no_cell ∷ one_cell ∷ n_less_1 ∷ n_cells ∷ n_and_1 ∷ three_n ∷ m_and_m_times_n ∷ []) code no_cell
 
 rule_back : (k : CellRule) → rule_of (rule_code k) ≡ k
 unfolding rule_of
 rule_back no_cell = refl
-rule_back one_Cell = refl
+rule_back one_cell = refl
 rule_back n_less_1 = refl
 rule_back n_cells = refl
 rule_back n_and_1 = refl
@@ -40,7 +40,7 @@ asked_by : {rule n w r : ℕ} (k : CellRule) → rule ≡ rule_code k → r ≡ 
 asked_by {rule} {n} {w} k e f = record { means = λ l g. f ∙ ap (λ (q : CellRule). cells_by q n w) (sym (rule_back k) ∙ (ap rule_of (sym e ∙ sym g) ∙ rule_back l)) }
 
 pub asked_one : {rule n w : ℕ} → rule ≡ 1 → CellsAsked rule n w 1
-asked_one e = asked_by one_Cell e refl
+asked_one e = asked_by one_cell e refl
 
 pub asked_none_less : {rule n w : ℕ} → rule ≡ 2 → n ≡ 0 → CellsAsked rule n w 0
 asked_none_less e z = asked_by n_less_1 e (omega arith)
@@ -65,7 +65,7 @@ asked_none {rule} {n} {w} a b c d e f = record { means = go }
   where
     go : (k : CellRule) → rule_code k ≡ rule → 0 ≡ cells_by k n w
     go no_cell g = refl
-    go one_Cell g = absurd (a (sym g))
+    go one_cell g = absurd (a (sym g))
     go n_less_1 g = absurd (b (sym g))
     go n_cells g = absurd (c (sym g))
     go n_and_1 g = absurd (d (sym g))
@@ -107,7 +107,7 @@ reserve_short {C} {code} {n} {w} {rule} {x} {need} {m} {k} f g c a b = record { 
   where
     go : (o : Op) → op_code o ≡ code → Room C m → Reserves C (cells_by (entry o).rule n w) m (Short k)
     go o e r =
-        let s = cells-spent need m (sym a ∙ b) in
+        let s = cells_spent need m (sym a ∙ b) in
         too_few (clipped_below c m.cells (cells_by (entry o).rule n w) (asked_is o e f g) s.0) (sym s.1)
 
 pub reserve_at : {C : List ℕ} {code n w p rule x need : ℕ} {m k : Meter} {ch : Charge} → p ≡ free C m % 4294967296 → p ≤ 4096 → rule ≡ rule_at code → CellsAsked rule n w x → Clipped x need → ch ≡ cells_charge need m → ch ≡ Granted k → Reserving C code n w m (At p k)

@@ -171,14 +171,14 @@ two_as {C} {v} e g = subst (λ (t : Two). ReadTwo C v t) e g
 not_two_of : {C : List ℕ} {n : ℕ} {x : Obj} → IsTwo C n x Other → (k : Obj → Obj → WordAnswer) → on_pair x k ≡ falls
 not_two_of (not_two h) = h
 
-pub pair-none : {C : List ℕ} {v : Val} {m : Meter} {code : ℕ} {q : Two} → ReadTwo C v q → q ≡ Other → CodedPair C v m code (Stop 21 m) C
-pair-none {C} {m = m} g e = record { sinks = tt; past = λ h. refl; means = λ o f t. leaf_falls (λ x room r. no_pair o t x (not_two_of ((two_as e g).means (free C m) x (free_under C m room) r))) }
+pub pair_none : {C : List ℕ} {v : Val} {m : Meter} {code : ℕ} {q : Two} → ReadTwo C v q → q ≡ Other → CodedPair C v m code (Stop 21 m) C
+pair_none {C} {m = m} g e = record { sinks = tt; past = λ h. refl; means = λ o f t. leaf_falls (λ x room r. no_pair o t x (not_two_of ((two_as e g).means (free C m) x (free_under C m room) r))) }
 
 two_gives : {C C' : List ℕ} {a b : Val} {m : Meter} {r : Ended} {o : Op} {x : Obj} → LeafTwo C a b m (op o) r C' → Room C m → IsTwo C (free C m) x (Both a b) → Gives C m C' (charged (meaning one (op o) x) m) r
 two_gives g room (are_two {x = x} {y = y} ra rb) = g.means x y room ra rb
 
-pub pair-both : {C C' : List ℕ} {v a b : Val} {m : Meter} {code : ℕ} {q : Two} {r : Ended} → ReadTwo C v q → q ≡ Both a b → CodedTwo C a b m code r C' → CodedPair C v m code r C'
-pair-both {C} {m = m} g e h = record { sinks = h.sinks; past = h.past; means = λ o f t. record { sinks = h.sinks; means = λ x room w. two_gives (h.means o f t) room ((two_as e g).means (free C m) x (free_under C m room) w) } }
+pub pair_both : {C C' : List ℕ} {v a b : Val} {m : Meter} {code : ℕ} {q : Two} {r : Ended} → ReadTwo C v q → q ≡ Both a b → CodedTwo C a b m code r C' → CodedPair C v m code r C'
+pair_both {C} {m = m} g e h = record { sinks = h.sinks; past = h.past; means = λ o f t. record { sinks = h.sinks; means = λ x room w. two_gives (h.means o f t) room ((two_as e g).means (free C m) x (free_under C m room) w) } }
 
 -- ---- each word by its number
 pub word_id : {C : List ℕ} {v : Val} {m : Meter} {code : ℕ} → code ≡ 0 → Coded C v m code (Done v m) C
@@ -189,13 +189,13 @@ pub word_tl : {C C' : List ℕ} {v : Val} {m : Meter} {code : ℕ} {r : Ended} �
 unfolding op_code
 word_tl e g = coded Op.tl e g
 
-pub word-atom : {C : List ℕ} {v : Val} {m : Meter} {code : ℕ} {r : Ended} → code ≡ 2 → Plain v m (op Op.atom) r → Coded C v m code r C
+pub word_atom : {C : List ℕ} {v : Val} {m : Meter} {code : ℕ} {r : Ended} → code ≡ 2 → Plain v m (op Op.atom) r → Coded C v m code r C
 unfolding op_code
-word-atom e g = coded_plain Op.atom e g
+word_atom e g = coded_plain Op.atom e g
 
-pub word-null : {C : List ℕ} {v : Val} {m : Meter} {code : ℕ} {r : Ended} → code ≡ 3 → Plain v m (op Op.null) r → Coded C v m code r C
+pub word_null : {C : List ℕ} {v : Val} {m : Meter} {code : ℕ} {r : Ended} → code ≡ 3 → Plain v m (op Op.null) r → Coded C v m code r C
 unfolding op_code
-word-null e g = coded_plain Op.null e g
+word_null e g = coded_plain Op.null e g
 
 pub word-length : {C : List ℕ} {v : Val} {m : Meter} {code : ℕ} {r : Ended} → code ≡ 6 → Plain v m (op Op.length) r → Coded C v m code r C
 unfolding op_code
@@ -209,21 +209,21 @@ pub word_tlr : {C C' : List ℕ} {v : Val} {m : Meter} {code : ℕ} {r : Ended} 
 unfolding op_code
 word_tlr e g = coded Op.tlr e g
 
-pub word-trans : {C C' : List ℕ} {v : Val} {m : Meter} {code : ℕ} {r : Ended} → code ≡ 22 → Leaf C v m (op Op.trans) r C' → Coded C v m code r C'
+pub word_trans : {C C' : List ℕ} {v : Val} {m : Meter} {code : ℕ} {r : Ended} → code ≡ 22 → Leaf C v m (op Op.trans) r C' → Coded C v m code r C'
 unfolding op_code
-word-trans e g = coded Op.trans e g
+word_trans e g = coded Op.trans e g
 
 pub word-reverse : {C C' : List ℕ} {v : Val} {m : Meter} {code : ℕ} {r : Ended} → code ≡ 16 → Ordered C v m 16 r C' → Coded C v m code r C'
 unfolding op_code
 word-reverse e g = coded Op.reverse e (leaf_order Op.reverse order_reverse (λ x. refl) g)
 
-pub word-rotl : {C C' : List ℕ} {v : Val} {m : Meter} {code : ℕ} {r : Ended} → code ≡ 17 → Ordered C v m 17 r C' → Coded C v m code r C'
+pub word_rotl : {C C' : List ℕ} {v : Val} {m : Meter} {code : ℕ} {r : Ended} → code ≡ 17 → Ordered C v m 17 r C' → Coded C v m code r C'
 unfolding op_code
-word-rotl e g = coded Op.rotl e (leaf_order Op.rotl order_rotl (λ x. refl) g)
+word_rotl e g = coded Op.rotl e (leaf_order Op.rotl order_rotl (λ x. refl) g)
 
-pub word-rotr : {C C' : List ℕ} {v : Val} {m : Meter} {code : ℕ} {r : Ended} → code ≡ 18 → Ordered C v m 18 r C' → Coded C v m code r C'
+pub word_rotr : {C C' : List ℕ} {v : Val} {m : Meter} {code : ℕ} {r : Ended} → code ≡ 18 → Ordered C v m 18 r C' → Coded C v m code r C'
 unfolding op_code
-word-rotr e g = coded Op.rotr e (leaf_order Op.rotr order_rotr (λ x. refl) g)
+word_rotr e g = coded Op.rotr e (leaf_order Op.rotr order_rotr (λ x. refl) g)
 
 pub word_eq : {C C' : List ℕ} {a b : Val} {m : Meter} {code : ℕ} {r : Ended} → code ≡ 4 → LeafTwo C a b m (op Op.eq) r C' → CodedTwo C a b m code r C'
 unfolding op_code
@@ -257,18 +257,18 @@ pub word-or : {C : List ℕ} {a b : Val} {m : Meter} {code : ℕ} {r : Ended} �
 unfolding op_code
 word-or e g = coded_plain_two Op.or e g
 
-pub word-apndl : {C C' : List ℕ} {a b : Val} {m : Meter} {code : ℕ} {r : Ended} → code ≡ 14 → LeafTwo C a b m (op Op.apndl) r C' → CodedTwo C a b m code r C'
+pub word_apndl : {C C' : List ℕ} {a b : Val} {m : Meter} {code : ℕ} {r : Ended} → code ≡ 14 → LeafTwo C a b m (op Op.apndl) r C' → CodedTwo C a b m code r C'
 unfolding op_code
-word-apndl e g = coded_two Op.apndl e g
+word_apndl e g = coded_two Op.apndl e g
 
-pub word-apndr : {C C' : List ℕ} {a b : Val} {m : Meter} {code : ℕ} {r : Ended} → code ≡ 19 → LeafTwo C a b m (op Op.apndr) r C' → CodedTwo C a b m code r C'
+pub word_apndr : {C C' : List ℕ} {a b : Val} {m : Meter} {code : ℕ} {r : Ended} → code ≡ 19 → LeafTwo C a b m (op Op.apndr) r C' → CodedTwo C a b m code r C'
 unfolding op_code
-word-apndr e g = coded_two Op.apndr e g
+word_apndr e g = coded_two Op.apndr e g
 
-pub word-distl : {C C' : List ℕ} {a b : Val} {m : Meter} {code : ℕ} {r : Ended} → code ≡ 20 → LeafTwo C a b m (op Op.distl) r C' → CodedTwo C a b m code r C'
+pub word_distl : {C C' : List ℕ} {a b : Val} {m : Meter} {code : ℕ} {r : Ended} → code ≡ 20 → LeafTwo C a b m (op Op.distl) r C' → CodedTwo C a b m code r C'
 unfolding op_code
-word-distl e g = coded_two Op.distl e g
+word_distl e g = coded_two Op.distl e g
 
-pub word-distr : {C C' : List ℕ} {a b : Val} {m : Meter} {code : ℕ} {r : Ended} → code ≡ 21 → LeafTwo C a b m (op Op.distr) r C' → CodedTwo C a b m code r C'
+pub word_distr : {C C' : List ℕ} {a b : Val} {m : Meter} {code : ℕ} {r : Ended} → code ≡ 21 → LeafTwo C a b m (op Op.distr) r C' → CodedTwo C a b m code r C'
 unfolding op_code
-word-distr e g = coded_two Op.distr e g
+word_distr e g = coded_two Op.distr e g

@@ -16,7 +16,7 @@ use Rattle.language.specs.declared.Val.{Val}
 use Rattle.language.proofs.Charging.{meter_same}
 use Rattle.cells.specs.Cells.{Rep, Same, Room, free}
 use Rattle.cells.proofs.Reps.{same_refl}
-use Rattle.primitives.specs.Ends.{Agree, Gives, gives-value, gives-bottom, gives-spent, Leaf}
+use Rattle.primitives.specs.Ends.{Agree, Gives, gives_value, gives_bottom, gives_spent, Leaf}
 use Rattle.primitives.specs.Leaves.{LeafTwo}
 use Rattle.primitives.specs.declared.Ended.TheVariants.{Done, Stop}
 
@@ -39,21 +39,21 @@ charged_any n y m =
 pub charged_granted : (n : ℕ) (y : Obj) (m : Meter) → n ≤ m.cells → charged (gives 0 n y) m ≡ value y (cells_taken n m)
 charged_granted n y m h = charged_any n y m ∙ rw (le-leb n m.cells h, take_cells)
 
-pub charged-short : (n : ℕ) (y : Obj) (m : Meter) → m.cells < n → charged (gives 0 n y) m ≡ spent no_cell m
-charged-short n y m h = charged_any n y m ∙ rw (lt-leb n m.cells h, take_cells)
+pub charged_short : (n : ℕ) (y : Obj) (m : Meter) → m.cells < n → charged (gives 0 n y) m ≡ spent no_cell m
+charged_short n y m h = charged_any n y m ∙ rw (lt-leb n m.cells h, take_cells)
 
-pub charged-plain : (y : Obj) (m : Meter) → charged (gives 0 0 y) m ≡ value y m
-charged-plain y m =
+pub charged_plain : (y : Obj) (m : Meter) → charged (gives 0 0 y) m ≡ value y m
+charged_plain y m =
     let e : cells_taken 0 m ≡ m = meter_same (cells_taken 0 m) m refl refl (omega arith) in
     charged_granted 0 y m (omega arith) ∙ ap (λ (k : Meter). value y k) e
 
 -- ---- bottom; a value without cells
 pub end_falls : {C C' : List ℕ} {m : Meter} {a : WordAnswer} → a ≡ falls → Gives C m C' (charged a m) (Stop 21 m)
-end_falls {m = m} e = rw e (gives-bottom refl (agree_self m))
+end_falls {m = m} e = rw e (gives_bottom refl (agree_self m))
 
 pub end_plain : {C : List ℕ} {m : Meter} {v : Val} {a : WordAnswer} (y : Obj) → Room C m → a ≡ gives 0 0 y → Rep C (free C m) v y → Gives C m C (charged a m) (Done v m)
 end_plain {C} {m} {v} y o e r =
-    rw (e, charged-plain y m) (gives-value (record { rep = r; same = same_refl C (free C m); room = o; fewer = omega arith; long = refl }))
+    rw (e, charged_plain y m) (gives_value (record { rep = r; same = same_refl C (free C m); room = o; fewer = omega arith; long = refl }))
 
 pub leaf_falls : {C C' : List ℕ} {v : Val} {m : Meter} {w : Word} → ((x : Obj) → Room C m → Rep C (free C m) v x → meaning one w x ≡ falls) → Leaf C v m w (Stop 21 m) C'
 leaf_falls h = record { sinks = tt; means = λ x o r. end_falls (h x o r) }
@@ -65,7 +65,7 @@ two_falls h = record { sinks = tt; means = λ x y o ra rb. end_falls (h x y o ra
 pub end_cells : {C C' : List ℕ} {m k : Meter} {v : Val} {a : WordAnswer} (n : ℕ) (y : Obj) → Room C m → a ≡ gives 0 n y → n ≤ m.cells → k ≡ cells_taken n m → length C' ≡ length C → Rep C' (free C m + n) v y → Same C C' (free C m) → Gives C m C' (charged a m) (Done v k)
 end_cells {C} {C'} {m} {k} {v} n y o e h f l r s =
     let i : free C' (cells_taken n m) ≡ free C m + n = omega (arith, o.fits) in
-    rw (e, f, charged_granted n y m h) (gives-value {x = y} {v = v} {m' = cells_taken n m} (record { rep = rw i r; same = s; room = record { fits = omega (arith, o.fits); small = omega (arith, o.small) }; fewer = omega arith; long = l }))
+    rw (e, f, charged_granted n y m h) (gives_value {x = y} {v = v} {m' = cells_taken n m} (record { rep = rw i r; same = s; room = record { fits = omega (arith, o.fits); small = omega (arith, o.small) }; fewer = omega arith; long = l }))
 
 pub end_short : {C C' : List ℕ} {m k : Meter} {a : WordAnswer} (n : ℕ) (y : Obj) → a ≡ gives 0 n y → m.cells < n → k ≡ m → Gives C m C' (charged a m) (Stop 24 k)
-end_short {m = m} n y e h f = rw (e, f, charged-short n y m h) (gives-spent refl (agree_self m))
+end_short {m = m} n y e h f = rw (e, f, charged_short n y m h) (gives_spent refl (agree_self m))

@@ -16,11 +16,11 @@ use Rattle.language.specs.declared.Meter.{Meter}
 use Rattle.language.specs.declared.Val.{Val}
 use Rattle.cells.specs.Cells.{Rep, Room, free, sequence_val}
 use Rattle.cells.specs.Parts.{Sized}
-use Rattle.cells.proofs.Reps.{rep_ext, same-trans}
+use Rattle.cells.proofs.Reps.{rep_ext, same_trans}
 use Rattle.lexer.specs.Vocabulary.{op_code}
 use Rattle.sequences.specs.Making.{Space, NewSequence, PutBefore, Prepended, Rearranged, all_but_last, sides, Shared}
-use Rattle.sequences.proofs.Parts.{take_all, length-append_one, length_but_last}
-use Rattle.sequences.proofs.Building.{nil_rep, stands_as, length-turned}
+use Rattle.sequences.proofs.Parts.{take_all, length_append_one, length_but_last}
+use Rattle.sequences.proofs.Building.{nil_rep, stands_as, length_turned}
 use Rattle.primitives.specs.Ends.{Gives, Leaf}
 use Rattle.primitives.specs.Asking.{Reserves, reserved, too_few, Kept, Reserving}
 use Rattle.primitives.specs.Leaves.{LeafTwo, Orders, order_tlr, order_reverse, order_rotl, order_rotr, Arranged, Ordered}
@@ -55,8 +55,8 @@ short o g e f r = short_at ((reserving_as e g).means o f r)
 pub kept : {C : List ℕ} {code n w p : ℕ} {m k : Meter} {q : Reserved} → Reserving C code n w m q → q ≡ At p k → Kept p k m
 kept g e = (reserving_as e g).keeps
 
-pub kept-sinks : {p : ℕ} {k m : Meter} → Kept p k m → (k.steps ≤ m.steps) × (k.names ≡ m.names)
-kept-sinks g = (omega (arith, g.steps), g.names)
+pub kept_sinks : {p : ℕ} {k m : Meter} → Kept p k m → (k.steps ≤ m.steps) × (k.names ≡ m.names)
+kept_sinks g = (omega (arith, g.steps), g.names)
 
 pub space_at : {C : List ℕ} {m k : Meter} {need p : ℕ} → Room C m → Got C need m p k → Space C p need
 space_at {C} {m} r g = record { far = omega (arith, g.first, g.enough, free_low C m r, r.fits, r.small); long = omega (arith, g.first, g.enough, r.fits) }
@@ -108,7 +108,7 @@ but_last_length (x :: xs) = length_but_last x xs ∙ (omega arith)
 
 left-length : (xs : Objs) → length_of (to_left xs) ≡ length_of xs
 left-length nil = refl
-left-length (x :: xs) = length-append_one xs x
+left-length (x :: xs) = length_append_one xs x
 
 right_length : (xs : Objs) → length_of (to_right xs) ≡ length_of xs
 right_length nil = refl
@@ -116,7 +116,7 @@ right_length (x :: xs) = ap suc (length_but_last x xs)
 
 order_length : {code : ℕ} {o : Op} {f : Objs → Objs} → Orders code o f → (xs : Objs) → length_of (f xs) ≡ cells_by (entry o).rule (length_of xs) 0
 order_length order_tlr xs = but_last_length xs
-order_length order_reverse xs = length-turned xs
+order_length order_reverse xs = length_turned xs
 order_length order_rotl xs = left-length xs
 order_length order_rotr xs = right_length xs
 
@@ -134,7 +134,7 @@ order_short {C} {v} {m} {k} {code} {n} h s g e = record { sinks = tt; means = go
         rw q.is (end_short (cells_by (entry o).rule (length_of q.places) 0) (seq (f q.places)) refl b.0 b.1)
 
 pub order_is : {C C' : List ℕ} {v r : Val} {m k : Meter} {code n p : ℕ} {q : Reserved} → v.tag ≡ 3 → Sized v n → Reserving C code n 0 m q → q ≡ At p k → Arranged C v code n p r C' → length C' ≡ length C → Ordered C v m code (Done r k) C'
-order_is {C} {C'} {v} {r} {m} {k} {code} {n} {p} h s g e a l = record { sinks = kept-sinks (kept g e); means = go }
+order_is {C} {C'} {v} {r} {m} {k} {code} {n} {p} h s g e a l = record { sinks = kept_sinks (kept g e); means = go }
   where
     go : (o : Op) (f : Objs → Objs) (x : Obj) → Orders code o f → Room C m → Rep C (free C m) v x → Gives C m C' (charged (on_seq x (λ xs. made o (length_of xs) 0 (seq (f xs)))) m) (Done r k)
     go o f x d room w =
@@ -160,33 +160,33 @@ tlr_is {C} {C'} {v} {m} {n} {r} s z g = record { sinks = g.sinks; means = go }
     go (seq (y :: ys)) o w = g.means Op.tlr all_but_last (seq (y :: ys)) order_tlr o w
 
 -- ---- apndl
-pub apndl-atom : {C : List ℕ} {a b : Val} {m : Meter} → (b.tag ≡ 3 → ⊥) → LeafTwo C a b m (op Op.apndl) (Stop 21 m) C
-apndl-atom h = two_falls (λ x y o ra rb. no_seq h rb (λ ys. made Op.apndl (length_of ys) 0 (seq (x :: ys))))
+pub apndl_atom : {C : List ℕ} {a b : Val} {m : Meter} → (b.tag ≡ 3 → ⊥) → LeafTwo C a b m (op Op.apndl) (Stop 21 m) C
+apndl_atom h = two_falls (λ x y o ra rb. no_seq h rb (λ ys. made Op.apndl (length_of ys) 0 (seq (x :: ys))))
 
-pub distl-atom : {C : List ℕ} {a b : Val} {m : Meter} → (b.tag ≡ 3 → ⊥) → LeafTwo C a b m (op Op.distl) (Stop 21 m) C
-distl-atom h = two_falls (λ x y o ra rb. no_seq h rb (λ ys. made Op.distl (length_of ys) 0 (seq (with_left x ys))))
+pub distl_atom : {C : List ℕ} {a b : Val} {m : Meter} → (b.tag ≡ 3 → ⊥) → LeafTwo C a b m (op Op.distl) (Stop 21 m) C
+distl_atom h = two_falls (λ x y o ra rb. no_seq h rb (λ ys. made Op.distl (length_of ys) 0 (seq (with_left x ys))))
 
-pub apndr-atom : {C : List ℕ} {a b : Val} {m : Meter} → (a.tag ≡ 3 → ⊥) → LeafTwo C a b m (op Op.apndr) (Stop 21 m) C
-apndr-atom h = two_falls (λ x y o ra rb. no_seq h ra (λ xs. made Op.apndr (length_of xs) 0 (seq (xs +++ (y :: nil)))))
+pub apndr_atom : {C : List ℕ} {a b : Val} {m : Meter} → (a.tag ≡ 3 → ⊥) → LeafTwo C a b m (op Op.apndr) (Stop 21 m) C
+apndr_atom h = two_falls (λ x y o ra rb. no_seq h ra (λ xs. made Op.apndr (length_of xs) 0 (seq (xs +++ (y :: nil)))))
 
-pub distr-atom : {C : List ℕ} {a b : Val} {m : Meter} → (a.tag ≡ 3 → ⊥) → LeafTwo C a b m (op Op.distr) (Stop 21 m) C
-distr-atom h = two_falls (λ x y o ra rb. no_seq h ra (λ xs. made Op.distr (length_of xs) 0 (seq (with_right xs y))))
+pub distr_atom : {C : List ℕ} {a b : Val} {m : Meter} → (a.tag ≡ 3 → ⊥) → LeafTwo C a b m (op Op.distr) (Stop 21 m) C
+distr_atom h = two_falls (λ x y o ra rb. no_seq h ra (λ xs. made Op.distr (length_of xs) 0 (seq (with_right xs y))))
 
-code-apndl : op_code Op.apndl ≡ 14
+code_apndl : op_code Op.apndl ≡ 14
 unfolding op_code
-code-apndl = refl
+code_apndl = refl
 
-code-apndr : op_code Op.apndr ≡ 19
+code_apndr : op_code Op.apndr ≡ 19
 unfolding op_code
-code-apndr = refl
+code_apndr = refl
 
-code-distl : op_code Op.distl ≡ 20
+code_distl : op_code Op.distl ≡ 20
 unfolding op_code
-code-distl = refl
+code_distl = refl
 
-code-distr : op_code Op.distr ≡ 21
+code_distr : op_code Op.distr ≡ 21
 unfolding op_code
-code-distr = refl
+code_distr = refl
 
 -- a pair whose second is a sequence of n places
 second_seq : {C C' : List ℕ} {a b : Val} {m : Meter} {n : ℕ} {r : Ended} (o : Op) → b.tag ≡ 3 → Sized b n → ((x : Obj) (ys : Objs) → n ≡ length_of ys → Room C m → Rep C (free C m) a x → Rep C (free C m) b (seq ys) → Gives C m C' (charged (meaning one (op o) (pair x (seq ys))) m) r) → (x y : Obj) → Room C m → Rep C (free C m) a x → Rep C (free C m) b y → Gives C m C' (charged (meaning one (op o) (pair x y)) m) r
@@ -199,49 +199,49 @@ first_seq {C} {m = m} o h s g x y room ra rb =
     let q = seq_of h ra in
     rw q.is (g q.places y (s.means C (free C m) q.places (free_under C m room) q.rep) room q.rep rb)
 
-pub apndl-short : {C : List ℕ} {a b : Val} {m k : Meter} {n : ℕ} {q : Reserved} → b.tag ≡ 3 → Sized b n → Reserving C 14 n 0 m q → q ≡ Short k → LeafTwo C a b m (op Op.apndl) (Stop 24 k) C
-apndl-short h s g e = record { sinks = tt; means = second_seq Op.apndl h s (λ x ys i room ra rb. let b = short Op.apndl g e code-apndl room in end_short 1 (seq (x :: ys)) refl b.0 b.1) }
+pub apndl_short : {C : List ℕ} {a b : Val} {m k : Meter} {n : ℕ} {q : Reserved} → b.tag ≡ 3 → Sized b n → Reserving C 14 n 0 m q → q ≡ Short k → LeafTwo C a b m (op Op.apndl) (Stop 24 k) C
+apndl_short h s g e = record { sinks = tt; means = second_seq Op.apndl h s (λ x ys i room ra rb. let b = short Op.apndl g e code_apndl room in end_short 1 (seq (x :: ys)) refl b.0 b.1) }
 
 pub apndl_is : {C C' : List ℕ} {a b r : Val} {m k : Meter} {n p : ℕ} {q : Reserved} → b.tag ≡ 3 → Sized b n → Reserving C 14 n 0 m q → q ≡ At p k → PutBefore C p a b r C' → length C' ≡ length C → LeafTwo C a b m (op Op.apndl) (Done r k) C'
 apndl_is h s g e t l = record {
-  sinks = kept-sinks (kept g e);
+  sinks = kept_sinks (kept g e);
   means = second_seq Op.apndl h s (λ x ys i room ra rb.
-      let b = got Op.apndl g e code-apndl room in
+      let b = got Op.apndl g e code_apndl room in
       end_stands 1 (x :: ys) room refl b l (t.means x ys (space_at room b) (rw (← b.first) at ra) (rw (← b.first) at rb)));
 }
 
 -- ---- apndr
-pub apndr-short : {C : List ℕ} {a b : Val} {m k : Meter} {n : ℕ} {q : Reserved} → a.tag ≡ 3 → Sized a n → Reserving C 19 n 0 m q → q ≡ Short k → LeafTwo C a b m (op Op.apndr) (Stop 24 k) C
-apndr-short h s g e = record {
+pub apndr_short : {C : List ℕ} {a b : Val} {m k : Meter} {n : ℕ} {q : Reserved} → a.tag ≡ 3 → Sized a n → Reserving C 19 n 0 m q → q ≡ Short k → LeafTwo C a b m (op Op.apndr) (Stop 24 k) C
+apndr_short h s g e = record {
   sinks = tt;
   means = first_seq Op.apndr h s (λ xs y i room ra rb.
-      let b = rw i at (short Op.apndr g e code-apndr room) in
+      let b = rw i at (short Op.apndr g e code_apndr room) in
       end_short (length_of xs + 1) (seq (xs +++ (y :: nil))) refl b.0 b.1);
 }
 
-apndr-stands : {C C₁ C₂ : List ℕ} {a b o last r : Val} {n p : ℕ} (xs : Objs) (y : Obj) → n ≡ length_of xs → o ≡ sequence_val 0 0 → PutBefore C p b o last C₁ → length C₁ ≡ length C → Prepended C₁ a n (p + 1) last r C₂ → Space C p (length_of xs + 1) → Rep C p a (seq xs) → Rep C p b y → NewSequence C p (length_of xs + 1) (xs +++ (y :: nil)) r C₂
-apndr-stands {C} {C₁} {C₂} {a} {b} {o} {last} {r} {n} {p} xs y i f t l g s ra rb =
+apndr_stands : {C C₁ C₂ : List ℕ} {a b o last r : Val} {n p : ℕ} (xs : Objs) (y : Obj) → n ≡ length_of xs → o ≡ sequence_val 0 0 → PutBefore C p b o last C₁ → length C₁ ≡ length C → Prepended C₁ a n (p + 1) last r C₂ → Space C p (length_of xs + 1) → Rep C p a (seq xs) → Rep C p b y → NewSequence C p (length_of xs + 1) (xs +++ (y :: nil)) r C₂
+apndr_stands {C} {C₁} {C₂} {a} {b} {o} {last} {r} {n} {p} xs y i f t l g s ra rb =
     let st = t.means y nil (record { far = omega (arith, s.far); long = omega (arith, s.long) }) rb (nil_rep f) in
     let k = g.means xs (y :: nil) (omega arith) (record { far = omega (arith, s.far); long = omega (arith, s.long) }) (rep_ext st.same (omega arith) ra) st.rep in
     let e : p + 1 + n ≡ p + (length_of xs + 1) = omega arith in
-    record { rep = subst (λ (z : ℕ). Rep C₂ z r (seq (xs +++ (y :: nil)))) e (subst (λ (t : Objs). Rep C₂ (p + 1 + n) r (seq (t +++ (y :: nil)))) (take_all n xs (omega arith)) k.rep); same = same-trans (omega arith) st.same k.same }
+    record { rep = subst (λ (z : ℕ). Rep C₂ z r (seq (xs +++ (y :: nil)))) e (subst (λ (t : Objs). Rep C₂ (p + 1 + n) r (seq (t +++ (y :: nil)))) (take_all n xs (omega arith)) k.rep); same = same_trans (omega arith) st.same k.same }
 
 pub apndr_is : {C C₁ C₂ : List ℕ} {a b o last r : Val} {m k : Meter} {n p : ℕ} {q : Reserved} → a.tag ≡ 3 → Sized a n → Reserving C 19 n 0 m q → q ≡ At p k → o ≡ sequence_val 0 0 → PutBefore C p b o last C₁ → length C₁ ≡ length C → Prepended C₁ a n (p + 1) last r C₂ → length C₂ ≡ length C₁ → LeafTwo C a b m (op Op.apndr) (Done r k) C₂
 apndr_is h s g e f t l u l₂ = record {
-  sinks = kept-sinks (kept g e);
+  sinks = kept_sinks (kept g e);
   means = first_seq Op.apndr h s (λ xs y i room ra rb.
-      let b = rw i at (got Op.apndr g e code-apndr room) in
-      end_stands (length_of xs + 1) (xs +++ (y :: nil)) room refl b (l₂ ∙ l) (apndr-stands xs y i f t l u (space_at room b) (rw (← b.first) at ra) (rw (← b.first) at rb)));
+      let b = rw i at (got Op.apndr g e code_apndr room) in
+      end_stands (length_of xs + 1) (xs +++ (y :: nil)) room refl b (l₂ ∙ l) (apndr_stands xs y i f t l u (space_at room b) (rw (← b.first) at ra) (rw (← b.first) at rb)));
 }
 
 pub low_next : {C : List ℕ} {code n w p : ℕ} {m k : Meter} {q : Reserved} → Reserving C code n w m q → q ≡ At p k → p + 1 < 4294967296
 low_next g e = omega (arith, (kept g e).low)
 
 -- ---- distl, distr
-sides-left : (x : Obj) (ys : Objs) → sides true x ys ≡ with_left x ys
+sides_left : (x : Obj) (ys : Objs) → sides true x ys ≡ with_left x ys
 unfolding sides
-sides-left x nil = refl
-sides-left x (y :: ys) = ap (λ (t : Objs). pair x y :: t) (sides-left x ys)
+sides_left x nil = refl
+sides_left x (y :: ys) = ap (λ (t : Objs). pair x y :: t) (sides_left x ys)
 
 sides_right : (x : Obj) (ys : Objs) → sides false x ys ≡ with_right ys x
 unfolding sides
@@ -254,30 +254,30 @@ shared_given : {C C' : List ℕ} {a v r : Val} {m k : Meter} {n p : ℕ} {left :
 shared_given {n = n} {w = w} x ys zs i room d t l ra rv same e =
     end_stands {a = w} (3 * n) zs room (rw i e) d l (stands_as same (t.means x ys (sym i) (space_at room d) (rw (← d.first) at ra) (rw (← d.first) at rv)))
 
-pub distl-short : {C : List ℕ} {a b : Val} {m k : Meter} {n : ℕ} {q : Reserved} → b.tag ≡ 3 → Sized b n → Reserving C 20 n 0 m q → q ≡ Short k → LeafTwo C a b m (op Op.distl) (Stop 24 k) C
-distl-short h s g e = record {
+pub distl_short : {C : List ℕ} {a b : Val} {m k : Meter} {n : ℕ} {q : Reserved} → b.tag ≡ 3 → Sized b n → Reserving C 20 n 0 m q → q ≡ Short k → LeafTwo C a b m (op Op.distl) (Stop 24 k) C
+distl_short h s g e = record {
   sinks = tt;
   means = second_seq Op.distl h s (λ x ys i room ra rb.
-      let b = rw i at (short Op.distl g e code-distl room) in
+      let b = rw i at (short Op.distl g e code_distl room) in
       end_short (3 * length_of ys) (seq (with_left x ys)) refl b.0 b.1);
 }
 
 pub distl_is : {C C' : List ℕ} {a b r : Val} {m k : Meter} {n p : ℕ} {q : Reserved} → b.tag ≡ 3 → Sized b n → Reserving C 20 n 0 m q → q ≡ At p k → Shared C a b true n p r C' → length C' ≡ length C → LeafTwo C a b m (op Op.distl) (Done r k) C'
 distl_is h s g e t l = record {
-  sinks = kept-sinks (kept g e);
-  means = second_seq Op.distl h s (λ x ys i room ra rb. shared_given x ys (with_left x ys) i room (got Op.distl g e code-distl room) t l ra rb (sides-left x ys) refl);
+  sinks = kept_sinks (kept g e);
+  means = second_seq Op.distl h s (λ x ys i room ra rb. shared_given x ys (with_left x ys) i room (got Op.distl g e code_distl room) t l ra rb (sides_left x ys) refl);
 }
 
-pub distr-short : {C : List ℕ} {a b : Val} {m k : Meter} {n : ℕ} {q : Reserved} → a.tag ≡ 3 → Sized a n → Reserving C 21 n 0 m q → q ≡ Short k → LeafTwo C a b m (op Op.distr) (Stop 24 k) C
-distr-short h s g e = record {
+pub distr_short : {C : List ℕ} {a b : Val} {m k : Meter} {n : ℕ} {q : Reserved} → a.tag ≡ 3 → Sized a n → Reserving C 21 n 0 m q → q ≡ Short k → LeafTwo C a b m (op Op.distr) (Stop 24 k) C
+distr_short h s g e = record {
   sinks = tt;
   means = first_seq Op.distr h s (λ xs y i room ra rb.
-      let b = rw i at (short Op.distr g e code-distr room) in
+      let b = rw i at (short Op.distr g e code_distr room) in
       end_short (3 * length_of xs) (seq (with_right xs y)) refl b.0 b.1);
 }
 
 pub distr_is : {C C' : List ℕ} {a b r : Val} {m k : Meter} {n p : ℕ} {q : Reserved} → a.tag ≡ 3 → Sized a n → Reserving C 21 n 0 m q → q ≡ At p k → Shared C b a false n p r C' → length C' ≡ length C → LeafTwo C a b m (op Op.distr) (Done r k) C'
 distr_is h s g e t l = record {
-  sinks = kept-sinks (kept g e);
-  means = first_seq Op.distr h s (λ xs y i room ra rb. shared_given y xs (with_right xs y) i room (got Op.distr g e code-distr room) t l rb ra (sides_right y xs) refl);
+  sinks = kept_sinks (kept g e);
+  means = first_seq Op.distr h s (λ xs y i room ra rb. shared_given y xs (with_right xs y) i room (got Op.distr g e code_distr room) t l rb ra (sides_right y xs) refl);
 }

@@ -60,21 +60,21 @@ on_ints_lem on_sub x = refl
 on_ints_lem on_mul x = refl
 on_ints_lem on_div x = refl
 
-first-other : (x y : Obj) (k : ℤ → ℤ → WordAnswer) → NoInteger x → on_ints (pair x y) k ≡ falls
-first-other x y k a_symbol = refl
-first-other x y k a_seq = refl
+first_other : (x y : Obj) (k : ℤ → ℤ → WordAnswer) → NoInteger x → on_ints (pair x y) k ≡ falls
+first_other x y k a_symbol = refl
+first_other x y k a_seq = refl
 
-second-other : (x y : Obj) (k : ℤ → ℤ → WordAnswer) → NoInteger y → on_ints (pair x y) k ≡ falls
-second-other (int i) y k a_symbol = refl
-second-other (int i) y k a_seq = refl
-second-other (symbol s) y k n = refl
-second-other (seq xs) y k n = refl
+second_other : (x y : Obj) (k : ℤ → ℤ → WordAnswer) → NoInteger y → on_ints (pair x y) k ≡ falls
+second_other (int i) y k a_symbol = refl
+second_other (int i) y k a_seq = refl
+second_other (symbol s) y k n = refl
+second_other (seq xs) y k n = refl
 
 pub first_no : {a b : Val} {m : Meter} {o : Op} {k : ℤ → ℤ → WordAnswer} {r : Bool} → OnInts o k → r ≡ is_integer_val a → not r ≡ true → PlainTwo a b m (op o) (Stop 21 m)
-first_no {k = k} w e h = record { means = λ C. two_falls (λ x y z ra rb. on_ints_lem w (pair x y) ∙ first-other x y k (no_integer e h ra)) }
+first_no {k = k} w e h = record { means = λ C. two_falls (λ x y z ra rb. on_ints_lem w (pair x y) ∙ first_other x y k (no_integer e h ra)) }
 
 pub second_no : {a b : Val} {m : Meter} {o : Op} {k : ℤ → ℤ → WordAnswer} {r : Bool} → OnInts o k → r ≡ is_integer_val b → not r ≡ true → PlainTwo a b m (op o) (Stop 21 m)
-second_no {k = k} w e h = record { means = λ C. two_falls (λ x y z ra rb. on_ints_lem w (pair x y) ∙ second-other x y k (no_integer e h rb)) }
+second_no {k = k} w e h = record { means = λ C. two_falls (λ x y z ra rb. on_ints_lem w (pair x y) ∙ second_other x y k (no_integer e h rb)) }
 
 -- both are integers
 both_ints : {a b : Val} {o : Op} {k : ℤ → ℤ → WordAnswer} (w : OnInts o k) (x y : Obj) (p : IntegerOf a x) (q : IntegerOf b y) → meaning one (op o) (pair x y) ≡ k p.number q.number

@@ -74,8 +74,8 @@ right_in : (k n : ℕ) → (k ≡ 0 → ⊥) → k ≤ n → from_right k n ≡ 
 right_in zero n z h = absurd (z refl)
 right_in (suc j) n z h = rw (lt-ltb j n (omega arith), from_right)
 
-pub select-atom : {C : List ℕ} {v : Val} {m : Meter} {k : ℕ} → (v.tag ≡ 3 → ⊥) → Leaf C v m (select k) (Stop 21 m) C
-select-atom {k = k} h = leaf_falls (λ x o r. no_seq h r (λ xs. pick (from_left k (length_of xs)) xs))
+pub select_atom : {C : List ℕ} {v : Val} {m : Meter} {k : ℕ} → (v.tag ≡ 3 → ⊥) → Leaf C v m (select k) (Stop 21 m) C
+select_atom {k = k} h = leaf_falls (λ x o r. no_seq h r (λ xs. pick (from_left k (length_of xs)) xs))
 
 pub right_atom : {C : List ℕ} {v : Val} {m : Meter} {k : ℕ} → (v.tag ≡ 3 → ⊥) → Leaf C v m (select_right k) (Stop 21 m) C
 right_atom {k = k} h = leaf_falls (λ x o r. no_seq h r (λ xs. pick (from_right k (length_of xs)) xs))
@@ -165,12 +165,12 @@ tl_is {C} {m = m} h s z t = record {
 }
 
 -- ---- length
-pub length-atom : {v : Val} {m : Meter} → (v.tag ≡ 3 → ⊥) → Plain v m (op Op.length) (Stop 21 m)
-length-atom h = record { means = λ C. leaf_falls (λ x o r. no_seq h r (λ xs. number one Op.length (pos (length_of xs)))) }
+pub length_atom : {v : Val} {m : Meter} → (v.tag ≡ 3 → ⊥) → Plain v m (op Op.length) (Stop 21 m)
+length_atom h = record { means = λ C. leaf_falls (λ x o r. no_seq h r (λ xs. number one Op.length (pos (length_of xs)))) }
 
 -- a length in range is the number given
-length-given : (k : ℕ) → k < 2147483648 → number one Op.length (pos k) ≡ gives 0 0 (int (pos k))
-length-given k h = rw (lt-ltb k 2147483648 h, number)
+length_given : (k : ℕ) → k < 2147483648 → number one Op.length (pos k) ≡ gives 0 0 (int (pos k))
+length_given k h = rw (lt-ltb k 2147483648 h, number)
 
 count_rep : (C : List ℕ) (n k : ℕ) {v : Val} → HoldsInteger v (pos k) → k < 2147483648 → Rep C n v (int (pos k))
 count_rep C n k (holds_pos t w) h = rep_pos t w h
@@ -185,6 +185,6 @@ length_is {v} {r} {m} {n} h s g = record {
         let e : n ≡ length_of q.places = s.means C (free C m) q.places u q.rep in
         let f : HoldsInteger r (pos (length_of q.places)) = rw e at g in
         let l : length_of q.places < 2147483648 = omega (arith, rep_length q.places q.rep, free_low C m o) in
-        rw q.is (end_plain (int (pos (length_of q.places))) o (length-given (length_of q.places) l) (count_rep C (free C m) (length_of q.places) f l));
+        rw q.is (end_plain (int (pos (length_of q.places))) o (length_given (length_of q.places) l) (count_rep C (free C m) (length_of q.places) f l));
   };
 }

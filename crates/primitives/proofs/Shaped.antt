@@ -61,14 +61,14 @@ pub integer_is : (v : Val) {r : Bool} → v.tag < 2 → r ≡ ltb v.word 2147483
 unfolding is_integer_val
 integer_is v h e = rw (lt-ltb v.tag 2 h) e
 
-and-true : (a b : Bool) → (a && b) ≡ true → (a ≡ true) × (b ≡ true)
-and-true true b e = (refl, e)
-and-true false b e = absurd (let z : ◌≡◌ {A = ℕ} 0 1 = cc in omega arith)
+and_true : (a b : Bool) → (a && b) ≡ true → (a ≡ true) × (b ≡ true)
+and_true true b e = (refl, e)
+and_true false b e = absurd (let z : ◌≡◌ {A = ℕ} 0 1 = cc in omega arith)
 
 pub short_of : {v : Val} {r : Bool} → r ≡ is_integer_val v → not r ≡ false → Short v
 unfolding is_integer_val
 short_of {v} {r} e h =
-    let t = and-true (ltb v.tag 2) (ltb v.word 2147483648) (sym e ∙ not-false r h) in
+    let t = and_true (ltb v.tag 2) (ltb v.word 2147483648) (sym e ∙ not-false r h) in
     record { tag = ltb-true v.tag 2 t.0; word = ltb-true v.word 2147483648 t.1 }
 
 pub small_of : {v : Val} → Short v → SmallInteger v
@@ -119,17 +119,17 @@ pub truth_rep : (C : List ℕ) (n : ℕ) {v : Val} (b : Bool) → v ≡ truth_va
 truth_rep C n true e = rw e rep_T
 truth_rep C n false e = rw e rep_F
 
-pub truth-none : {v : Val} → (v.tag ≡ 2 → ⊥) → ReadTruth v 2
-truth-none h = record { means = λ C n x r. sym (ap truth_code (compared.truth-other h r)) }
+pub truth_none : {v : Val} → (v.tag ≡ 2 → ⊥) → ReadTruth v 2
+truth_none h = record { means = λ C n x r. sym (ap truth_code (compared.truth_other h r)) }
 
-pub truth-read_t : {v : Val} → v.tag ≡ 2 → v.word ≡ 20 → ReadTruth v 1
-truth-read_t h w = record { means = λ C n x r. sym (ap truth_code (compared.truth_T h w r)) }
+pub truth_read_t : {v : Val} → v.tag ≡ 2 → v.word ≡ 20 → ReadTruth v 1
+truth_read_t h w = record { means = λ C n x r. sym (ap truth_code (compared.truth_T h w r)) }
 
-pub truth-read_f : {v : Val} → v.tag ≡ 2 → v.word ≡ 6 → ReadTruth v 0
-truth-read_f h w = record { means = λ C n x r. sym (ap truth_code (compared.truth-F h w r)) }
+pub truth_read_f : {v : Val} → v.tag ≡ 2 → v.word ≡ 6 → ReadTruth v 0
+truth_read_f h w = record { means = λ C n x r. sym (ap truth_code (compared.truth_F h w r)) }
 
-pub truth-other : {v : Val} → v.tag ≡ 2 → (v.word ≡ 20 → ⊥) → (v.word ≡ 6 → ⊥) → ReadTruth v 2
-truth-other h wt wf = record { means = λ C n x r. sym (ap truth_code (compared.truth-neither wt wf r)) }
+pub truth_other : {v : Val} → v.tag ≡ 2 → (v.word ≡ 20 → ⊥) → (v.word ≡ 6 → ⊥) → ReadTruth v 2
+truth_other h wt wf = record { means = λ C n x r. sym (ap truth_code (compared.truth_neither wt wf r)) }
 
 -- ---- atoms
 pub atom_yes : {v : Val} → (v.tag ≡ 3 → ⊥) → ReadAtom v true

@@ -27,9 +27,9 @@ pub record Agree (m m' : Meter) : Type 0 where
 
 -- what an end with the cells C' says, where the application began with the cells C and the meter m
 pub data Gives (C : List ℕ) (m : Meter) (C' : List ℕ) : Out Obj → Ended → Type 0 where
-  gives-value : {x : Obj} {v : Val} {m' : Meter} → Made C m x v m' C' → Gives C m C' (value x m') (Done v m')
-  gives-bottom : {n : ℕ} {m' m'' : Meter} → n ≡ 21 → Agree m' m'' → Gives C m C' (bottom m') (Stop n m'')
-  gives-spent : {w : Spent} {n : ℕ} {m' m'' : Meter} → n ≡ spent_number w → Agree m' m'' → Gives C m C' (spent w m') (Stop n m'')
+  gives_value : {x : Obj} {v : Val} {m' : Meter} → Made C m x v m' C' → Gives C m C' (value x m') (Done v m')
+  gives_bottom : {n : ℕ} {m' m'' : Meter} → n ≡ 21 → Agree m' m'' → Gives C m C' (bottom m') (Stop n m'')
+  gives_spent : {w : Spent} {n : ℕ} {m' m'' : Meter} → n ≡ spent_number w → Agree m' m'' → Gives C m C' (spent w m') (Stop n m'')
 
 -- the steps don't grow, and as many names are open as before
 abbrev pub Sinks : Ended → Meter → Type 0

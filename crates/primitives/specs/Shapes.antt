@@ -1,7 +1,7 @@
 -- What a value shows of the object that it stands for: a pair, an integer, a truth value, an atom.
 use Rattle.std.specs.Prelude.{ℕ, ◌<◌, ◌≤◌, ◌≡◌, Bool, true, false, ◌&&◌, List, ltb}
 use Rattle.language.specs.Numbers.{half, one}
-use Rattle.language.specs.Objects.{Obj, seq, nil, ◌::◌, Truth, isT, isF, neither, truth_of}
+use Rattle.language.specs.Objects.{Obj, seq, nil, ◌::◌, Truth, is_T, is_F, neither, truth_of}
 use Rattle.language.specs.Meanings.{WordAnswer, falls, on_pair, is_atom, is_null}
 use Rattle.language.specs.declared.Val.{Val}
 use Rattle.cells.specs.Cells.{Rep}
@@ -29,8 +29,8 @@ truth_val true = record { tag = 2; word = 20 }
 truth_val false = record { tag = 2; word = 6 }
 
 abbrev pub truth_code : Truth → ℕ
-truth_code isT = 1
-truth_code isF = 0
+truth_code is_T = 1
+truth_code is_F = 0
 truth_code neither = 2
 
 pub record ReadTruth (v : Val) (r : ℕ) : Type 0 where

@@ -33,16 +33,16 @@ put_first : (t vs : List ℕ) → put t 0 vs ≡ vs ++ drop (length vs) t
 unfolding put
 put_first t vs = let z : 0 + length vs ≡ length vs = omega arith in rw z
 
-bodies-formed : (P : Prog) → AreDefinitions P → AreForms (bodies P)
-bodies-formed [] h = tt
-bodies-formed (d ∷ P) h = (h.1, bodies-formed P h.2)
+bodies_formed : (P : Prog) → AreDefinitions P → AreForms (bodies P)
+bodies_formed [] h = tt
+bodies_formed (d ∷ P) h = (h.1, bodies_formed P h.2)
 
 -- every name's definition stands linked where its root says
 defined : {T U D C : List ℕ} {total many : ℕ} {m : Meter} (placed : List Placed) → AllLinked T total D many U → Loaded placed T total D many C m → (w : List ℕ) → IsName w → DefAt U C (free C m) (root_in D many) (root_in D many w) (lookup w (program_of placed))
 defined {U = U} {D} {C} {total} {many} {m} placed linked loaded w i =
     let n = free C m in
     let P = program_of placed in
-    let kids = linked.means C n (bodies P) loaded.few_forms loaded.in_table (bodies-formed P loaded.formed) loaded.forms in
+    let kids = linked.means C n (bodies P) loaded.few_forms loaded.in_table (bodies_formed P loaded.formed) loaded.forms in
     let at = loaded.names ∙ put_first loaded.blank (encode_definitions 0 placed) in
     let found = roots U C n (root_in D many) D w i 0 0 total placed (drop (length (encode_definitions 0 placed)) loaded.blank) loaded.formed at kids in
     subst (λ (k : ℕ). DefAt U C n (root_in D many) (root_in D k w) (lookup w P)) (sym loaded.count) found

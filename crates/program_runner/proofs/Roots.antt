@@ -16,11 +16,11 @@ use Rattle.language.specs.Reading.{Placed, program_of}
 use Rattle.tables.specs.Tables.{field}
 use Rattle.formtable.specs.Encoding.{low_of, high_of, encode_definitions, named}
 use Rattle.formtable.specs.Standing.{parts, bodies}
-use Rattle.formtable.proofs.Names.{name-test_back}
+use Rattle.formtable.proofs.Names.{name_test_back}
 use Rattle.linker.specs.Linked.{FormAt, DefAt, no_def, a_def}
 use Rattle.linker.specs.Roots.{root_from}
-use Rattle.linker.specs.Linking.{Tree, tree, tree-chain, Kids, no_kid, a_kid, Back, no_back, a_back}
-use Rattle.linker.proofs.Trees.{form_of, tree-small}
+use Rattle.linker.specs.Linking.{Tree, tree, tree_chain, Kids, no_kid, a_kid, Back, no_back, a_back}
+use Rattle.linker.proofs.Trees.{form_of, tree_small}
 
 -- ---- a form takes up as many records as it has forms
 forms_by_parts : (f : Form) → forms_in f ≡ suc (forms_in_all (parts f))
@@ -38,7 +38,7 @@ forms_by_parts (while p f) = omega arith
 mutual
   tree_end : {F C : List ℕ} {n : ℕ} {root : List ℕ → ℕ} {i e : ℕ} {f : Form} → Tree F C n root i f e → e ≡ i + forms_in f
   tree_end (tree {f = f} l r k) = let h = kids_end k in let g = forms_by_parts f in omega arith
-  tree_end (tree-chain l q b) = let h = back_end b in omega arith
+  tree_end (tree_chain l q b) = let h = back_end b in omega arith
 
   kids_end : {F C : List ℕ} {n : ℕ} {root : List ℕ → ℕ} {j e : ℕ} {fs : Forms} → Kids F C n root j fs e → e ≡ j + forms_in_all fs
   kids_end no_kid = omega arith
@@ -75,7 +75,7 @@ module _ (F C : List ℕ) (n : ℕ) (root : List ℕ → ℕ) (D w : List ℕ) (
   -- the first definition: its root if it has the name, else what the others say
   one_root : (d r left : ℕ) (q : Def) (P : Prog) (l : List ℕ) → IsName q.called → Front D d (low_of (packed q.called)) (high_of (packed q.called)) r l → r < 2048 → FormAt F C n root r q.body → DefAt F C n root (found left (d + 1)) (lookup w P) → DefAt F C n root (found (suc left) d) (lookup w (q ∷ P))
   unfolding root_from named
-  one_root d r left q P l j a s f h = rw (a.low, a.high, name-test_back q.called w j i) (go (same_bytes w q.called) refl)
+  one_root d r left q P l j a s f h = rw (a.low, a.high, name_test_back q.called w j i) (go (same_bytes w q.called) refl)
     where
       go : (t : Bool) → same_bytes w q.called ≡ t → DefAt F C n root (cond (same_bytes w q.called) ((field D d 2 + 1) % 4294967296) (found left (d + 1))) (lookup w (q ∷ P))
       go true e = rw (e, lookup, a.body) (a_def {d = (r + 1) % 4294967296} {i = r} (omega arith) f)
@@ -87,5 +87,5 @@ module _ (F C : List ℕ) (n : ℕ) (root : List ℕ → ℕ) (D w : List ℕ) (
   roots d r e (q ∷ ds) l h z (a_kid {m = m} t y k) =
       let a = front D d (low_of (packed q.def.called)) (high_of (packed q.def.called)) r q.place (encode_definitions (r + forms_in q.def.body) ds ++ l) z in
       let k₁ = subst (λ (x : ℕ). Kids F C n root x (bodies (program_of ds)) e) (tree_end t) k in
-      one_root d r (length ds) q.def (program_of ds) (encode_definitions (r + forms_in q.def.body) ds ++ l) h.0 a (tree-small t) (form_of t)
+      one_root d r (length ds) q.def (program_of ds) (encode_definitions (r + forms_in q.def.body) ds ++ l) h.0 a (tree_small t) (form_of t)
       (roots (d + 1) (r + forms_in q.def.body) e ds l h.2 a.rest k₁)

@@ -16,9 +16,9 @@ use Rattle.language.specs.Accepted.{IsObj, AreObjs}
 use Rattle.language.specs.Writing.{decimal, write_integer, write_obj, write_objs, write_more_objs, marks_of_obj, marks_of_objs, short, deep, scan, open_behind}
 use Rattle.language.specs.declared.Val.{Val}
 use Rattle.theorems.proofs.Texts.{all_weaken}
-use Rattle.theorems.proofs.Decimals.{decimal-digits}
+use Rattle.theorems.proofs.Decimals.{decimal_digits}
 use Rattle.cells.specs.Cells.{Rep}
-use Rattle.packing.proofs.Packed.{symbol-bytes}
+use Rattle.packing.proofs.Packed.{symbol_bytes}
 use Rattle.cells.proofs.Inversions.{rep_object}
 use Rattle.objects.specs.Writings.{WalkedText, fits, too_long, too_deep, is_flat, ObjectWalked}
 use Rattle.objects.proofs.Walks.{flat_of}
@@ -29,10 +29,10 @@ use Rattle.objects.specs.declared.Written.TheVariants as O
 use Rattle.program_writer.specs.Walks.{Wrote, ConstantWalked}
 
 -- ---- a scan that finds no room has a text longer than the room
-scan-long : (s : List ℕ) (d r : ℕ) → scan s d r ≡ short → r < length s
+scan_long : (s : List ℕ) (d r : ℕ) → scan s d r ≡ short → r < length s
 unfolding scan
-scan-long [] d r e = let z : ◌≡◌ {A = ℕ} 0 1 = cc in absurd (omega arith)
-scan-long (b ∷ s) d r e = go (eqb b (code "<") && leb 32 d) (eqb r 0) (λ q. scan-long s (open_behind b d) (r - 1) q) refl e
+scan_long [] d r e = let z : ◌≡◌ {A = ℕ} 0 1 = cc in absurd (omega arith)
+scan_long (b ∷ s) d r e = go (eqb b (code "<") && leb 32 d) (eqb r 0) (λ q. scan_long s (open_behind b d) (r - 1) q) refl e
   where
     go : (t u : Bool) → (scan s (open_behind b d) (r - 1) ≡ short → r - 1 < length s) → eqb r 0 ≡ u → cond t deep (cond u short (scan s (open_behind b d) (r - 1))) ≡ short → r < length (b ∷ s)
     go true u f q h = let z : ◌≡◌ {A = ℕ} 0 1 = cc in absurd (omega arith)
@@ -75,7 +75,7 @@ flat_later (b ∷ w) s d r f e =
     flat_later w s d z.room x.1 z.is
 
 decimal_flat : (n : ℕ) → all is_flat (decimal n) ≡ true
-decimal_flat n = all_weaken is_digit is_flat digit_flat (decimal n) (decimal-digits n)
+decimal_flat n = all_weaken is_digit is_flat digit_flat (decimal n) (decimal_digits n)
 
 integer_later : (z : ℤ) (s : List ℕ) (d r : ℕ) → scan (write_integer z ++ s) d r ≡ deep → Later s d
 unfolding write_integer
@@ -84,31 +84,31 @@ integer_later (negsuc n) s d r e =
     let z = flat_next 45 (decimal (suc n) ++ s) d r (λ q. absurd (omega arith)) (λ q. absurd (omega arith)) e in
     flat_later (decimal (suc n)) s d z.room (decimal_flat (suc n)) z.is
 
-close-later : (s : List ℕ) (d r : ℕ) → scan (62 ∷ s) (d + 1) r ≡ deep → Later s d
-close-later s d r e = let z : d + 1 - 1 ≡ d = omega arith in rw z at (next_later 62 s (d + 1) r (λ q. absurd (omega arith)) e)
+close_later : (s : List ℕ) (d r : ℕ) → scan (62 ∷ s) (d + 1) r ≡ deep → Later s d
+close_later s d r e = let z : d + 1 - 1 ≡ d = omega arith in rw z at (next_later 62 s (d + 1) r (λ q. absurd (omega arith)) e)
 
 mutual
   unfolding write_obj write_objs write_more_objs
 
   obj_later : (x : Obj) (s : List ℕ) (d r : ℕ) → IsObj x → d + marks_of_obj x ≤ 32 → scan (write_obj x ++ s) d r ≡ deep → Later s d
   obj_later (int z) s d r i h e = integer_later z s d r e
-  obj_later (symbol w) s d r i h e = flat_later w s d r (all_weaken is_symbol_byte is_flat symbol_flat w (symbol-bytes w i)) e
+  obj_later (symbol w) s d r i h e = flat_later w s d r (all_weaken is_symbol_byte is_flat symbol_flat w (symbol_bytes w i)) e
   obj_later (seq xs) s d r i h e =
       let z = open_later (write_objs xs ++ s) d r (omega arith) e in
       objs_later xs s d z.room i (omega arith) z.is
 
   objs_later : (xs : Objs) (s : List ℕ) (d r : ℕ) → AreObjs xs → d + 1 + marks_of_objs xs ≤ 32 → scan (write_objs xs ++ s) (d + 1) r ≡ deep → Later s d
-  objs_later nil s d r i h e = close-later s d r e
+  objs_later nil s d r i h e = close_later s d r e
   objs_later (x :: xs) s d r i h e =
       let z = obj_later x (write_more_objs xs ++ s) (d + 1) r i.0 (omega arith) (ap (λ (l : List ℕ). scan l (d + 1) r) (sym (append_assoc (write_obj x) (write_more_objs xs) s)) ∙ e) in
-      more-later xs s d z.room i.1 (omega arith) z.is
+      more_later xs s d z.room i.1 (omega arith) z.is
 
-  more-later : (xs : Objs) (s : List ℕ) (d r : ℕ) → AreObjs xs → d + 1 + marks_of_objs xs ≤ 32 → scan (write_more_objs xs ++ s) (d + 1) r ≡ deep → Later s d
-  more-later nil s d r i h e = close-later s d r e
-  more-later (x :: xs) s d r i h e =
+  more_later : (xs : Objs) (s : List ℕ) (d r : ℕ) → AreObjs xs → d + 1 + marks_of_objs xs ≤ 32 → scan (write_more_objs xs ++ s) (d + 1) r ≡ deep → Later s d
+  more_later nil s d r i h e = close_later s d r e
+  more_later (x :: xs) s d r i h e =
       let y = flat_next 44 ((write_obj x ++ write_more_objs xs) ++ s) (d + 1) r (λ q. absurd (omega arith)) (λ q. absurd (omega arith)) e in
       let z = obj_later x (write_more_objs xs ++ s) (d + 1) y.room i.0 (omega arith) (ap (λ (l : List ℕ). scan l (d + 1) y.room) (sym (append_assoc (write_obj x) (write_more_objs xs) s)) ∙ y.is) in
-      more-later xs s d z.room i.1 (omega arith) z.is
+      more_later xs s d z.room i.1 (omega arith) z.is
 
 -- so it is never too deep
 never_deep : (x : Obj) (r : ℕ) → IsObj x → marks_of_obj x ≤ 32 → scan (write_obj x) 0 r ≡ deep → ⊥
@@ -121,12 +121,12 @@ never_deep x r i h e =
 
 -- ---- the walk
 module _ {C : List ℕ} {v : Val} {at : ℕ} {out : List ℕ} where
-  pub constant-past : 16384 < at → ConstantWalked C v at 16385 out out
-  constant-past h = record { means = λ n x c m r. record { place = omega arith; stands = λ a b. absurd (omega arith) } }
+  pub constant_past : 16384 < at → ConstantWalked C v at 16385 out out
+  constant_past h = record { means = λ n x c m r. record { place = omega arith; stands = λ a b. absurd (omega arith) } }
 
   module _ {r : Written} {out' : List ℕ} (low : at ≤ 16384) (w : ObjectWalked C v at 16384 0 r out out') where
-    pub constant-done : {e : ℕ} → r ≡ O.Done e → ConstantWalked C v at e out out'
-    constant-done {e} q = record { means = λ n x c m rep. go x (w.means n x c rep) }
+    pub constant_done : {e : ℕ} → r ≡ O.Done e → ConstantWalked C v at e out out'
+    constant_done {e} q = record { means = λ n x c m rep. go x (w.means n x c rep) }
       where
         go : (x : Obj) → WalkedText (write_obj x) 0 0 at 16384 r out out' → Wrote (write_obj x) at e out out'
         go x (fits f l s p) = let z : e ≡ at + length (write_obj x) = cc in record { place = omega arith; stands = λ a b. p b }
@@ -139,11 +139,11 @@ module _ {C : List ℕ} {v : Val} {at : ℕ} {out : List ℕ} where
       where
         go : WalkedText (write_obj x) 0 0 at 16384 r out out' → Wrote (write_obj x) at k out out'
         go (fits f l s p) = absurd (not_done (at + length (write_obj x)) f)
-        go (too_long f s) = let z = scan-long (write_obj x) 0 (16384 - at) s in record { place = omega arith; stands = λ a b. absurd (omega arith) }
+        go (too_long f s) = let z = scan_long (write_obj x) 0 (16384 - at) s in record { place = omega arith; stands = λ a b. absurd (omega arith) }
         go (too_deep f s) = absurd (never_deep x (16384 - at) (rep_object rep) m s)
 
-    pub constant-short : r ≡ O.Short → ConstantWalked C v at 16385 out out'
-    constant-short q = record { means = λ n x c m rep. long n x c m rep (λ e f. let z : ◌≡◌ {A = ℕ} 0 1 = cc in omega arith) refl }
+    pub constant_short : r ≡ O.Short → ConstantWalked C v at 16385 out out'
+    constant_short q = record { means = λ n x c m rep. long n x c m rep (λ e f. let z : ◌≡◌ {A = ℕ} 0 1 = cc in omega arith) refl }
 
-    pub constant-deep : r ≡ O.Deep → ConstantWalked C v at 16385 out out'
-    constant-deep q = record { means = λ n x c m rep. long n x c m rep (λ e f. let z : ◌≡◌ {A = ℕ} 0 1 = cc in omega arith) refl }
+    pub constant_deep : r ≡ O.Deep → ConstantWalked C v at 16385 out out'
+    constant_deep q = record { means = λ n x c m rep. long n x c m rep (λ e f. let z : ◌≡◌ {A = ℕ} 0 1 = cc in omega arith) refl }

@@ -15,24 +15,24 @@ use Rattle.program_writer.specs.Layout.{opening, behind_part, behind_chain, behi
 use Rattle.program_writer.specs.Walks.{Writable, AllWritable, none_more, one_more}
 
 -- ---- texts
-chain-parts : (gs : Forms) (f : Form) (fs : Forms) → parts_text (chain gs) (f & fs) ≡ write_parts (f & fs)
+chain_parts : (gs : Forms) (f : Form) (fs : Forms) → parts_text (chain gs) (f & fs) ≡ write_parts (f & fs)
 unfolding parts_text part_text behind_part behind_chain write_parts
-chain-parts gs f stop = simp (append-nil)
-chain-parts gs f (h & fs) =
-    ap (λ (l : List ℕ). (bracketed f (write_form f) ++ bytes ".") ++ l) (chain-parts gs h fs) ∙ append_assoc (bracketed f (write_form f)) (bytes ".") (write_parts (h & fs))
+chain_parts gs f stop = simp (append-nil)
+chain_parts gs f (h & fs) =
+    ap (λ (l : List ℕ). (bracketed f (write_form f) ++ bytes ".") ++ l) (chain_parts gs h fs) ∙ append_assoc (bracketed f (write_form f)) (bytes ".") (write_parts (h & fs))
 
-construct-parts : (gs : Forms) (f : Form) (fs : Forms) → parts_text (construct gs) (f & fs) ≡ write_forms (f & fs)
+construct_parts : (gs : Forms) (f : Form) (fs : Forms) → parts_text (construct gs) (f & fs) ≡ write_forms (f & fs)
 unfolding parts_text part_text behind_part behind_construct write_forms
-construct-parts gs f stop = simp (append-nil)
-construct-parts gs f (h & fs) =
-    ap (λ (l : List ℕ). (write_form f ++ bytes ",") ++ l) (construct-parts gs h fs) ∙ append_assoc (write_form f) (bytes ",") (write_forms (h & fs))
+construct_parts gs f stop = simp (append-nil)
+construct_parts gs f (h & fs) =
+    ap (λ (l : List ℕ). (write_form f ++ bytes ",") ++ l) (construct_parts gs h fs) ∙ append_assoc (write_form f) (bytes ",") (write_forms (h & fs))
 
 -- texts one behind the other
 one_part : (a p : List ℕ) → (a ++ ((p ++ []) ++ [])) ++ [] ≡ a ++ p
 one_part a p = simp append-nil
 
-part-and_end : (a p s c : List ℕ) → (a ++ ((p ++ s) ++ [])) ++ c ≡ a ++ (p ++ (s ++ c))
-part-and_end a p s c = simp (append-nil, append_assoc)
+part_and_end : (a p s c : List ℕ) → (a ++ ((p ++ s) ++ [])) ++ c ≡ a ++ (p ++ (s ++ c))
+part_and_end a p s c = simp (append-nil, append_assoc)
 
 two_parts : (a p s f u : List ℕ) → (a ++ ((p ++ s) ++ ((f ++ u) ++ []))) ++ [] ≡ a ++ (p ++ (s ++ (f ++ u)))
 two_parts a p s f u = simp (append-nil, append_assoc)
@@ -40,20 +40,20 @@ two_parts a p s f u = simp (append-nil, append_assoc)
 three_parts : (a p s f u g v : List ℕ) → (a ++ ((p ++ s) ++ ((f ++ u) ++ ((g ++ v) ++ [])))) ++ [] ≡ a ++ (p ++ (s ++ (f ++ (u ++ (g ++ v)))))
 three_parts a p s f u g v = simp (append-nil, append_assoc)
 
-pub form-text : (f : Form) → IsForm f → (opening f ++ parts_text f (parts f)) ++ ending f ≡ write_form f
+pub form_text : (f : Form) → IsForm f → (opening f ++ parts_text f (parts f)) ++ ending f ≡ write_form f
 unfolding opening parts_text part_text behind_part behind_condition behind_while ending write_form
-form-text (word w) i = append-nil (write_word w ++ []) ∙ append-nil (write_word w)
-form-text (name w) i = append-nil (w ++ []) ∙ append-nil w
-form-text (chain stop) i = absurd i.0
-form-text (chain (f & fs)) i = append-nil (parts_text (chain (f & fs)) (f & fs)) ∙ chain-parts (f & fs) f fs
-form-text (construct stop) i = absurd i.0
-form-text (construct (f & fs)) i = append-nil (bytes "[" ++ parts_text (construct (f & fs)) (f & fs)) ∙ ap (λ (l : List ℕ). code "[" ∷ l) (construct-parts (f & fs) f fs)
-form-text (constant x) i = append-nil ((bytes "%" ++ write_obj x) ++ []) ∙ append-nil (bytes "%" ++ write_obj x)
-form-text (insert f) i = one_part (bytes "/") (bracketed f (write_form f))
-form-text (apply_all f) i = one_part (bytes "@") (bracketed f (write_form f))
-form-text (bu f x) i = part-and_end (bytes "{") (bracketed f (write_form f)) (bytes ",") (write_obj x ++ bytes "}")
-form-text (condition p f g) i = three_parts (bytes "(") (write_form p) (bytes "->") (write_form f) (bytes ";") (write_form g) (bytes ")")
-form-text (while p f) i = two_parts (bytes "(") (write_form p) (bytes "?") (write_form f) (bytes ")")
+form_text (word w) i = append-nil (write_word w ++ []) ∙ append-nil (write_word w)
+form_text (name w) i = append-nil (w ++ []) ∙ append-nil w
+form_text (chain stop) i = absurd i.0
+form_text (chain (f & fs)) i = append-nil (parts_text (chain (f & fs)) (f & fs)) ∙ chain_parts (f & fs) f fs
+form_text (construct stop) i = absurd i.0
+form_text (construct (f & fs)) i = append-nil (bytes "[" ++ parts_text (construct (f & fs)) (f & fs)) ∙ ap (λ (l : List ℕ). code "[" ∷ l) (construct_parts (f & fs) f fs)
+form_text (constant x) i = append-nil ((bytes "%" ++ write_obj x) ++ []) ∙ append-nil (bytes "%" ++ write_obj x)
+form_text (insert f) i = one_part (bytes "/") (bracketed f (write_form f))
+form_text (apply_all f) i = one_part (bytes "@") (bracketed f (write_form f))
+form_text (bu f x) i = part_and_end (bytes "{") (bracketed f (write_form f)) (bytes ",") (write_obj x ++ bytes "}")
+form_text (condition p f g) i = three_parts (bytes "(") (write_form p) (bytes "->") (write_form f) (bytes ";") (write_form g) (bytes ")")
+form_text (while p f) i = two_parts (bytes "(") (write_form p) (bytes "?") (write_form f) (bytes ")")
 
 -- ---- marks
 abbrev pub opens : Form → ℕ
@@ -68,28 +68,28 @@ opens (bu f x) = 1
 opens (condition p f g) = 1
 opens (while p f) = 1
 
-chain-marks : (gs fs : Forms) → parts_marks (chain gs) fs ≡ marks_of_parts fs
+chain_marks : (gs fs : Forms) → parts_marks (chain gs) fs ≡ marks_of_parts fs
 unfolding parts_marks part_marks
-chain-marks gs stop = refl
-chain-marks gs (f & fs) = ap (λ (m : ℕ). max (bracket_marks f (marks_of f)) m) (chain-marks gs fs)
+chain_marks gs stop = refl
+chain_marks gs (f & fs) = ap (λ (m : ℕ). max (bracket_marks f (marks_of f)) m) (chain_marks gs fs)
 
-construct-marks : (gs fs : Forms) → parts_marks (construct gs) fs ≡ marks_of_forms fs
+construct_marks : (gs fs : Forms) → parts_marks (construct gs) fs ≡ marks_of_forms fs
 unfolding parts_marks part_marks
-construct-marks gs stop = refl
-construct-marks gs (f & fs) = ap (λ (m : ℕ). max (marks_of f) m) (construct-marks gs fs)
+construct_marks gs stop = refl
+construct_marks gs (f & fs) = ap (λ (m : ℕ). max (marks_of f) m) (construct_marks gs fs)
 
-pub form-marks : (f : Form) → marks_of f ≡ opens f + max (parts_marks f (parts f)) (own_marks f)
+pub form_marks : (f : Form) → marks_of f ≡ opens f + max (parts_marks f (parts f)) (own_marks f)
 unfolding parts_marks part_marks own_marks
-form-marks (word w) = refl
-form-marks (name w) = refl
-form-marks (chain fs) = let e = chain-marks fs fs in omega arith
-form-marks (construct fs) = let e = construct-marks fs fs in omega arith
-form-marks (constant x) = omega arith
-form-marks (insert f) = omega arith
-form-marks (apply_all f) = omega arith
-form-marks (bu f x) = omega arith
-form-marks (condition p f g) = omega arith
-form-marks (while p f) = omega arith
+form_marks (word w) = refl
+form_marks (name w) = refl
+form_marks (chain fs) = let e = chain_marks fs fs in omega arith
+form_marks (construct fs) = let e = construct_marks fs fs in omega arith
+form_marks (constant x) = omega arith
+form_marks (insert f) = omega arith
+form_marks (apply_all f) = omega arith
+form_marks (bu f x) = omega arith
+form_marks (condition p f g) = omega arith
+form_marks (while p f) = omega arith
 
 -- ---- the parts of a form that can be written can be written
 bracket_few : (f : Form) → bracket_marks f (marks_of f) ≤ 32 → marks_of f ≤ 32

@@ -16,29 +16,29 @@ use Rattle.program_writer.specs.declared.Way.{Way}
 use Rattle.program_writer.specs.Layout.{takes_part, takes_kind, behind_part, part_text, parts_text}
 use Rattle.program_writer.specs.Walks.{Wrote, Writable, AllWritable, one_more, BehindWalked, OpeningWalked, EndingWalked, Went, FormWalked, PartWalked, PartsWalked}
 use Rattle.program_writer.proofs.Wrote.{wrote_none, wrote_then, wrote_as}
-use Rattle.program_writer.proofs.FormTexts.{form-text, parts_writable}
+use Rattle.program_writer.proofs.FormTexts.{form_text, parts_writable}
 use Rattle.program_writer.proofs.Rows.{takes_kind_lem}
 
 -- ---- what stands in the table
 pub first_row : {t C : List ℕ} {n i e : ℕ} {f : Form} {fs : Forms} → Stands t C n i (f & fs) e → Row t C n i f
 first_row (a_form r s) = r
 
-pub rest-stands : {t C : List ℕ} {n i e : ℕ} {f : Form} {fs : Forms} → Stands t C n i (f & fs) e → Stands t C n (i + 1) (parts f +& fs) e
-rest-stands (a_form r s) = s
+pub rest_stands : {t C : List ℕ} {n i e : ℕ} {f : Form} {fs : Forms} → Stands t C n i (f & fs) e → Stands t C n (i + 1) (parts f +& fs) e
+rest_stands (a_form r s) = s
 
-pub not-chain : {t C : List ℕ} {n i : ℕ} {f : Form} → (kind_at t i ≡ 5 → ⊥) → Row t C n i f → is_chain f ≡ false
-not-chain h (row_op q a w) = refl
-not-chain h (row_select q a w) = refl
-not-chain h (row_select_right q a w) = refl
-not-chain h (row_name q a w) = refl
-not-chain h (row_chain q a w) = absurd (h q)
-not-chain h (row_construct q a w) = refl
-not-chain h (row_insert q a w) = refl
-not-chain h (row_apply_all q a w) = refl
-not-chain h (row_condition q a w) = refl
-not-chain h (row_while q a w) = refl
-not-chain h (row_constant q a w r) = refl
-not-chain h (row_bu q a w r) = refl
+pub not_chain : {t C : List ℕ} {n i : ℕ} {f : Form} → (kind_at t i ≡ 5 → ⊥) → Row t C n i f → is_chain f ≡ false
+not_chain h (row_op q a w) = refl
+not_chain h (row_select q a w) = refl
+not_chain h (row_select_right q a w) = refl
+not_chain h (row_name q a w) = refl
+not_chain h (row_chain q a w) = absurd (h q)
+not_chain h (row_construct q a w) = refl
+not_chain h (row_insert q a w) = refl
+not_chain h (row_apply_all q a w) = refl
+not_chain h (row_condition q a w) = refl
+not_chain h (row_while q a w) = refl
+not_chain h (row_constant q a w r) = refl
+not_chain h (row_bu q a w r) = refl
 
 pub is_chain_lem : {t C : List ℕ} {n i : ℕ} {f : Form} → kind_at t i ≡ 5 → Row t C n i f → is_chain f ≡ true
 is_chain_lem h (row_op q a w) = absurd (omega arith)
@@ -56,11 +56,11 @@ is_chain_lem h (row_bu q a w r) = absurd (omega arith)
 
 -- ---- a form
 pub form_out : {t C : List ℕ} {i at : ℕ} {out : List ℕ} → 2048 ≤ i → FormWalked t C i at (record { next = i; place = at }) out out
-form_out h = record { ahead = omega arith; means = λ n e f gs c l w s. let g = stands_up (rest-stands s) in absurd (omega arith) }
+form_out h = record { ahead = omega arith; means = λ n e f gs c l w s. let g = stands_up (rest_stands s) in absurd (omega arith) }
 
 module _ {t C : List ℕ} {i at arity p q : ℕ} {row : Val} {w : Way} {out out₁ out₂ out₃ : List ℕ} where
-  pub form-done : row ≡ val_at t i → arity ≡ get_or t (i * 4 + 1) 0 → OpeningWalked C row at p out out₁ → PartsWalked t C row.tag arity (i + 1) p w out₁ out₂ → EndingWalked C row w.place q out₂ out₃ → FormWalked t C i at (record { next = w.next; place = q }) out out₃
-  form-done e a o ps d = record { ahead = let h = ps.ahead in omega arith; means = λ n e f gs c l g s. whole n e f gs c l g s }
+  pub form_done : row ≡ val_at t i → arity ≡ get_or t (i * 4 + 1) 0 → OpeningWalked C row at p out out₁ → PartsWalked t C row.tag arity (i + 1) p w out₁ out₂ → EndingWalked C row w.place q out₂ out₃ → FormWalked t C i at (record { next = w.next; place = q }) out out₃
+  form_done e a o ps d = record { ahead = let h = ps.ahead in omega arith; means = λ n e f gs c l g s. whole n e f gs c l g s }
     where
       kind : row.tag ≡ kind_at t i
       kind = ap (λ (v : Val). v.tag) e
@@ -71,13 +71,13 @@ module _ {t C : List ℕ} {i at arity p q : ℕ} {row : Val} {w : Way} {out out�
       whole : (n e : ℕ) (f : Form) (gs : Forms) → n < 4294967296 → e ≤ 2048 → Writable f → Stands t C n i (f & gs) e → Went t C n (write_form f) gs e at (record { next = w.next; place = q }) out out₃
       whole n e f gs c l g s =
           let r = first_row s in
-          let k = ps.means n e i f (parts f) gs c l kind r (a ∙ arity_of r) (parts_writable f g) (rest-stands s) in
-          record { rest = k.rest; wrote = wrote_as (form-text f g.good) (wrote_then (wrote_then (o.means t n i f c kind value g r) k.wrote) (d.means t n i f c kind value g r)) }
+          let k = ps.means n e i f (parts f) gs c l kind r (a ∙ arity_of r) (parts_writable f g) (rest_stands s) in
+          record { rest = k.rest; wrote = wrote_as (form_text f g.good) (wrote_then (wrote_then (o.means t n i f c kind value g r) k.wrote) (d.means t n i f c kind value g r)) }
 
 -- ---- a part
-plain-part : (g f : Form) → is_chain f ≡ false → part_text g f ≡ write_form f
+plain_part : (g f : Form) → is_chain f ≡ false → part_text g f ≡ write_form f
 unfolding part_text
-plain-part g f h = go (takes_part g)
+plain_part g f h = go (takes_part g)
   where
     go : (b : Bool) → cond b (bracketed f (write_form f)) (write_form f) ≡ write_form f
     go true = rw h
@@ -92,13 +92,13 @@ unfolding part_text
 bracket_part g f h e = rw (h, e)
 
 module _ {t C : List ℕ} {k i at m : ℕ} {r : Way} {out out' : List ℕ} (q : m ≡ get_or t (i * 4) 0) where
-  pub part-plain : (m ≡ 5 → ⊥) → FormWalked t C i at r out out' → PartWalked t C k i at r out out'
-  part-plain h w =
+  pub part_plain : (m ≡ 5 → ⊥) → FormWalked t C i at r out out' → PartWalked t C k i at r out out'
+  part_plain h w =
       record {
         ahead = w.ahead;
         means = λ n e j g f gs c l kind row can s.
             let x = w.means n e f gs c l can s in
-            record { rest = x.rest; wrote = wrote_as (sym (plain-part g f (not-chain (λ z. h (q ∙ z)) (first_row s)))) x.wrote };
+            record { rest = x.rest; wrote = wrote_as (sym (plain_part g f (not_chain (λ z. h (q ∙ z)) (first_row s)))) x.wrote };
       }
 
   pub part_free : {b : Bool} → b ≡ takes_kind k → not b ≡ true → FormWalked t C i at r out out' → PartWalked t C k i at r out out'
@@ -115,8 +115,8 @@ module _ {t C : List ℕ} {k i at m : ℕ} {r : Way} {out out' : List ℕ} (q : 
       no false h = refl
 
 module _ {t C : List ℕ} {k i at m p : ℕ} {w : Way} {out out₁ out₂ out₃ : List ℕ} (q : m ≡ get_or t (i * 4) 0) where
-  pub part-bracketed : {b : Bool} {z : ℕ} → m ≡ 5 → b ≡ takes_kind k → not b ≡ false → Wrote (40 ∷ []) at p out out₁ → FormWalked t C i p w out₁ out₂ → Wrote (41 ∷ []) w.place z out₂ out₃ → PartWalked t C k i at (record { next = w.next; place = z }) out out₃
-  part-bracketed {b} h v y o x d =
+  pub part_bracketed : {b : Bool} {z : ℕ} → m ≡ 5 → b ≡ takes_kind k → not b ≡ false → Wrote (40 ∷ []) at p out out₁ → FormWalked t C i p w out₁ out₂ → Wrote (41 ∷ []) w.place z out₂ out₃ → PartWalked t C k i at (record { next = w.next; place = z }) out out₃
+  part_bracketed {b} h v y o x d =
       record {
         ahead = x.ahead;
         means = λ n e j g f gs c l kind row can s.
@@ -157,9 +157,9 @@ module _ {t C : List ℕ} {k arity from start : ℕ} {out₀ : List ℕ} where
       }
 
   module _ {left i at : ℕ} {out : List ℕ} where
-    pub parts-done : left ≤ 0 → PartsLeft t C k arity from start left i at out₀ out → PartsWalked t C k arity from start (record { next = i; place = at }) out₀ out
+    pub parts_done : left ≤ 0 → PartsLeft t C k arity from start left i at out₀ out → PartsWalked t C k arity from start (record { next = i; place = at }) out₀ out
     unfolding parts_text
-    parts-done h p =
+    parts_done h p =
         record { ahead = p.ahead; means = λ n e j g fs gs c l kind row a can s. none n e g fs gs (p.means n e j g fs gs c l kind row a can s) }
       where
         end : (n e : ℕ) (g : Form) (fs gs os : Forms) (a : List ℕ) → left ≡ count os → parts_text g fs ≡ a ++ parts_text g os → Stands t C n i (os +& gs) e → Wrote a start at out₀ out → Went t C n (parts_text g fs) gs e start (record { next = i; place = at }) out₀ out

@@ -17,10 +17,10 @@ use Rattle.formtable.specs.Standing.{kind_at, wide_at, parts, Row, row_op, row_s
 use Rattle.program_writer.specs.declared.Depth.{Depth}
 use Rattle.program_writer.specs.Layout.{takes_part, takes_kind, part_marks, parts_marks, own_marks}
 use Rattle.program_writer.specs.Depths.{ObjectDepth, PlacesDepth, OwnDepth, Deep, FormDepth, PartDepth, PartsDepth}
-use Rattle.program_writer.proofs.FormTexts.{opens, form-marks}
+use Rattle.program_writer.proofs.FormTexts.{opens, form_marks}
 use Rattle.program_writer.proofs.Rows.{own_constant, own_bu, takes_kind_lem}
 use Rattle.formtable.proofs.Standing.{stands_up, arity_of}
-use Rattle.program_writer.proofs.FormWalks.{first_row, rest-stands, not-chain, is_chain_lem}
+use Rattle.program_writer.proofs.FormWalks.{first_row, rest_stands, not_chain, is_chain_lem}
 
 -- ---- the larger of numbers, up to a limit
 both_up_to : (a b l : ℕ) → min (max a b) l ≡ max (min a l) (min b l)
@@ -53,19 +53,19 @@ no_marks h (rep_nil t e) = absurd (h t)
 no_marks h (rep_more t e l a b) = absurd (h t)
 
 module _ {C : List ℕ} {v : Val} {limit : ℕ} where
-  pub object-atom : {b : Bool} → b ≡ eqb v.tag 3 → not b ≡ true → ObjectDepth C v limit 0
-  object-atom {b} e h =
+  pub object_atom : {b : Bool} → b ≡ eqb v.tag 3 → not b ≡ true → ObjectDepth C v limit 0
+  object_atom {b} e h =
       record { most = omega arith; means = λ n x c r. let z = no_marks (eqb-false v.tag 3 (sym e ∙ no b h)) r in omega arith }
     where
       no : (b : Bool) → not b ≡ true → b ≡ false
       no true h = sym h
       no false h = refl
 
-  pub object-none : limit ≡ 0 → ObjectDepth C v limit 0
-  object-none h = record { most = omega arith; means = λ n x c r. omega arith }
+  pub object_none : limit ≡ 0 → ObjectDepth C v limit 0
+  object_none h = record { most = omega arith; means = λ n x c r. omega arith }
 
-  pub object-more : {b : Bool} {r : ℕ} → b ≡ eqb v.tag 3 → not b ≡ false → (limit ≡ 0 → ⊥) → PlacesDepth C v (limit - 1) r → ObjectDepth C v limit (r + 1)
-  object-more {b} {r} e h z p = record { most = let m = p.most in omega arith; means = λ n x c s. go n x c s }
+  pub object_more : {b : Bool} {r : ℕ} → b ≡ eqb v.tag 3 → not b ≡ false → (limit ≡ 0 → ⊥) → PlacesDepth C v (limit - 1) r → ObjectDepth C v limit (r + 1)
+  object_more {b} {r} e h z p = record { most = let m = p.most in omega arith; means = λ n x c s. go n x c s }
     where
       yes' : (b : Bool) → not b ≡ false → b ≡ true
       yes' true h = refl
@@ -155,19 +155,19 @@ module _ {C : List ℕ} {row : Val} where
     own_some = record { means = λ t n i f c e w r. of_row c e w r }
 
 -- ---- a form
-opens-none : {t C : List ℕ} {n i k : ℕ} {f : Form} → k < 6 → k ≡ kind_at t i → Row t C n i f → opens f ≡ 0
-opens-none h e (row_op q a w) = refl
-opens-none h e (row_select q a w) = refl
-opens-none h e (row_select_right q a w) = refl
-opens-none h e (row_name q a w) = refl
-opens-none h e (row_chain q a w) = refl
-opens-none h e (row_construct q a w) = absurd (omega arith)
-opens-none h e (row_insert q a w) = absurd (omega arith)
-opens-none h e (row_apply_all q a w) = absurd (omega arith)
-opens-none h e (row_condition q a w) = absurd (omega arith)
-opens-none h e (row_while q a w) = absurd (omega arith)
-opens-none h e (row_constant q a w r) = absurd (omega arith)
-opens-none h e (row_bu q a w r) = absurd (omega arith)
+opens_none : {t C : List ℕ} {n i k : ℕ} {f : Form} → k < 6 → k ≡ kind_at t i → Row t C n i f → opens f ≡ 0
+opens_none h e (row_op q a w) = refl
+opens_none h e (row_select q a w) = refl
+opens_none h e (row_select_right q a w) = refl
+opens_none h e (row_name q a w) = refl
+opens_none h e (row_chain q a w) = refl
+opens_none h e (row_construct q a w) = absurd (omega arith)
+opens_none h e (row_insert q a w) = absurd (omega arith)
+opens_none h e (row_apply_all q a w) = absurd (omega arith)
+opens_none h e (row_condition q a w) = absurd (omega arith)
+opens_none h e (row_while q a w) = absurd (omega arith)
+opens_none h e (row_constant q a w r) = absurd (omega arith)
+opens_none h e (row_bu q a w r) = absurd (omega arith)
 
 opens_one : {t C : List ℕ} {n i k : ℕ} {f : Form} → 6 ≤ k → k ≡ kind_at t i → Row t C n i f → opens f ≡ 1
 opens_one h e (row_op q a w) = absurd (omega arith)
@@ -184,43 +184,43 @@ opens_one h e (row_constant q a w r) = refl
 opens_one h e (row_bu q a w r) = refl
 
 pub depth_out : {t C : List ℕ} {i : ℕ} → 2048 ≤ i → FormDepth t C i (record { next = i; marks = 0 })
-depth_out h = record { ahead = omega arith; means = λ n e f gs c l s. let g = stands_up (rest-stands s) in absurd (omega arith) }
+depth_out h = record { ahead = omega arith; means = λ n e f gs c l s. let g = stands_up (rest_stands s) in absurd (omega arith) }
 
 module _ {t C : List ℕ} {i arity own inside : ℕ} {row : Val} {d : Depth} (e : row ≡ val_at t i) (a : arity ≡ get_or t (i * 4 + 1) 0) (ps : PartsDepth t C row.tag arity (i + 1) d) (o : OwnDepth C row own) (m : inside ≡ max d.marks own) where
-  form-ahead : i ≤ d.next
-  form-ahead = let h = ps.ahead in omega arith
+  form_ahead : i ≤ d.next
+  form_ahead = let h = ps.ahead in omega arith
 
   of_form : (n e : ℕ) (f : Form) (gs : Forms) → n < 4294967296 → e ≤ 2048 → Stands t C n i (f & gs) e → Stands t C n d.next gs e × (min (opens f + inside) 33 ≡ min (marks_of f) 33) × (inside ≤ 33)
   of_form n l f gs c h s =
       let r = first_row s in
       let kind : row.tag ≡ kind_at t i = ap (λ (v : Val). v.tag) e in
       let value : row.word ≡ wide_at t i = ap (λ (v : Val). v.word) e in
-      let k = ps.means n l i f (parts f) gs c h kind r (a ∙ arity_of r) (rest-stands s) in
+      let k = ps.means n l i f (parts f) gs c h kind r (a ∙ arity_of r) (rest_stands s) in
       let p = k.marks in
       let q = o.means t n i f c kind value r in
-      let z = form-marks f in
+      let z = form_marks f in
       (k.rest, omega arith, omega arith)
 
   pub depth_flat : row.tag < 6 → FormDepth t C i (record { next = d.next; marks = inside })
   depth_flat h =
-      record { ahead = form-ahead; means = λ n l f gs c b s. let x = of_form n l f gs c b s in let z = opens-none h (ap (λ (v : Val). v.tag) e) (first_row s) in let y = x.1 in let w = x.2 in record { rest = x.0; marks = omega arith } }
+      record { ahead = form_ahead; means = λ n l f gs c b s. let x = of_form n l f gs c b s in let z = opens_none h (ap (λ (v : Val). v.tag) e) (first_row s) in let y = x.1 in let w = x.2 in record { rest = x.0; marks = omega arith } }
 
   pub depth_open : {r : ℕ} → 6 ≤ row.tag → r ≡ min (suc inside) 33 → FormDepth t C i (record { next = d.next; marks = r })
   depth_open h g =
-      record { ahead = form-ahead; means = λ n l f gs c b s. let x = of_form n l f gs c b s in let z = opens_one h (ap (λ (v : Val). v.tag) e) (first_row s) in let y = x.1 in record { rest = x.0; marks = omega arith } }
+      record { ahead = form_ahead; means = λ n l f gs c b s. let x = of_form n l f gs c b s in let z = opens_one h (ap (λ (v : Val). v.tag) e) (first_row s) in let y = x.1 in record { rest = x.0; marks = omega arith } }
 
 -- ---- a part
-plain-marks : (g f : Form) → is_chain f ≡ false → part_marks g f ≡ marks_of f
+plain_marks : (g f : Form) → is_chain f ≡ false → part_marks g f ≡ marks_of f
 unfolding part_marks
-plain-marks g f h = go (takes_part g)
+plain_marks g f h = go (takes_part g)
   where
     go : (b : Bool) → cond b (bracket_marks f (marks_of f)) (marks_of f) ≡ marks_of f
     go true = rw h
     go false = refl
 
-free-marks : (g f : Form) → takes_part g ≡ false → part_marks g f ≡ marks_of f
+free_marks : (g f : Form) → takes_part g ≡ false → part_marks g f ≡ marks_of f
 unfolding part_marks
-free-marks g f h = rw h
+free_marks g f h = rw h
 
 bracket_marks_lem : (g f : Form) → takes_part g ≡ true → is_chain f ≡ true → part_marks g f ≡ suc (marks_of f)
 unfolding part_marks
@@ -233,7 +233,7 @@ module _ {t C : List ℕ} {k i m : ℕ} {d : Depth} (x : FormDepth t C i d) (q :
         ahead = x.ahead;
         means = λ n e j g f gs c l kind row s.
             let u = x.means n e f gs c l s in
-            record { rest = u.rest; marks = rw (plain-marks g f (not-chain (λ z. h (q ∙ z)) (first_row s))) u.marks };
+            record { rest = u.rest; marks = rw (plain_marks g f (not_chain (λ z. h (q ∙ z)) (first_row s))) u.marks };
       }
 
   pub depth_free : {b : Bool} → b ≡ takes_kind k → not b ≡ true → PartDepth t C k i d
@@ -242,7 +242,7 @@ module _ {t C : List ℕ} {k i m : ℕ} {d : Depth} (x : FormDepth t C i d) (q :
         ahead = x.ahead;
         means = λ n e j g f gs c l kind row s.
             let u = x.means n e f gs c l s in
-            record { rest = u.rest; marks = rw (free-marks g f (sym (takes_kind_lem kind row) ∙ sym v ∙ no b h)) u.marks };
+            record { rest = u.rest; marks = rw (free_marks g f (sym (takes_kind_lem kind row) ∙ sym v ∙ no b h)) u.marks };
       }
     where
       no : (b : Bool) → not b ≡ true → b ≡ false

@@ -16,7 +16,7 @@ use Rattle.program_writer.specs.declared.Depth.{Depth}
 use Rattle.program_writer.specs.declared.Written.TheVariants as W
 use Rattle.program_writer.specs.Walks.{Wrote, NameWalked, Writable, FormWalked}
 use Rattle.program_writer.specs.Depths.{FormDepth}
-use Rattle.program_writer.specs.Programs.{name_at, Named, a_name, Holds, DefinitionWalked, ProgramWalked, ProgramDepth, TextMeasured, ProgramEnd, program-written, no_room, ProgramWritten}
+use Rattle.program_writer.specs.Programs.{name_at, Named, a_name, Holds, DefinitionWalked, ProgramWalked, ProgramDepth, TextMeasured, ProgramEnd, program_written, no_room, ProgramWritten}
 use Rattle.program_writer.proofs.Wrote.{wrote_none, wrote_then, wrote_as}
 use Rattle.program_writer.proofs.MarkWalks.{turn}
 
@@ -62,11 +62,11 @@ pub record DefinitionsLeft (t C D : List ℕ) (defs k i at : ℕ) (out₀ out : 
   pub len : length out ≡ length out₀
   pub means : (n e : ℕ) (P : Prog) → Holds t C D defs n e P → marks_of_program P ≤ 32 → DefinitionsNow t C D defs n e P k i at out₀ out
 
-first-named : {D : List ℕ} {k : ℕ} {d : Def} {ds : Prog} → Named D k (d ∷ ds) → name_at D k ≡ packed d.called
-first-named (a_name e s) = e
+first_named : {D : List ℕ} {k : ℕ} {d : Def} {ds : Prog} → Named D k (d ∷ ds) → name_at D k ≡ packed d.called
+first_named (a_name e s) = e
 
-rest-named : {D : List ℕ} {k : ℕ} {d : Def} {ds : Prog} → Named D k (d ∷ ds) → Named D (k + 1) ds
-rest-named (a_name e s) = s
+rest_named : {D : List ℕ} {k : ℕ} {d : Def} {ds : Prog} → Named D k (d ∷ ds) → Named D (k + 1) ds
+rest_named (a_name e s) = s
 
 module _ {t C D : List ℕ} {defs : ℕ} {out₀ : List ℕ} where
   pub definitions_start : DefinitionsLeft t C D defs 0 0 0 out₀ out₀
@@ -99,14 +99,14 @@ module _ {t C D : List ℕ} {defs : ℕ} {out₀ : List ℕ} where
           one n e P [] a c l q m s names g f v = absurd (omega arith)
           one n e P (d ∷ os) a c l q m s names g f v =
               let can : Writable d.body = record { good = g.1; few = omega arith } in
-              let u = x.means n e d (bodies os) c l (first-named names) g.0 can s in
+              let u = x.means n e d (bodies os) c l (first_named names) g.0 can s in
               record {
                 front = a ++ definition_text d;
                 others = os;
                 whole = q ∙ ap (λ (b : List ℕ). a ++ b) (next_text d os) ∙ sym (append_assoc a (definition_text d) (write_program os));
                 many = omega arith;
                 stands = u.rest;
-                names = rest-named names;
+                names = rest_named names;
                 good = g.2;
                 few = omega arith;
                 wrote = wrote_then v u.wrote;
@@ -149,11 +149,11 @@ module _ {t C : List ℕ} {defs : ℕ} where
 -- ---- the calls
 module _ {t C D : List ℕ} {defs l : ℕ} where
   module _ {none none' : List ℕ} (w : ProgramWalked t C D defs l none none') where
-    pub text-long : 16384 < l → TextMeasured t C D defs 16385
-    text-long h = record { means = λ n e P a f. let x = (w.means n e P a f).place in omega arith }
+    pub text_long : 16384 < l → TextMeasured t C D defs 16385
+    text_long h = record { means = λ n e P a f. let x = (w.means n e P a f).place in omega arith }
 
-    pub text-short : l ≤ 16384 → TextMeasured t C D defs l
-    text-short h = record { means = λ n e P a f. let x = (w.means n e P a f).place in omega arith }
+    pub text_short : l ≤ 16384 → TextMeasured t C D defs l
+    text_short h = record { means = λ n e P a f. let x = (w.means n e P a f).place in omega arith }
 
   module _ (w : TextMeasured t C D defs l) where
     module _ {out : List ℕ} where
@@ -183,4 +183,4 @@ module _ {t C D : List ℕ} {defs l : ℕ} where
           whole text x y =
               let e : l ≡ length text = omega arith in
               let z : 0 + length text ≡ length text = omega arith in
-              program-written (omega arith) (ap (λ (k : ℕ). W.Done k) e) (y.stands (omega arith) (omega arith) ∙ ap (λ (k : ℕ). text ++ drop k out) z)
+              program_written (omega arith) (ap (λ (k : ℕ). W.Done k) e) (y.stands (omega arith) (omega arith) ∙ ap (λ (k : ℕ). text ++ drop k out) z)

@@ -41,9 +41,9 @@ module _ {C : List ℕ} {n : ℕ} {x : Obj} {v : Val} (row : Val) where
 unfoldable mark_text : ℕ → List ℕ
 mark_text b = cond (eqb b 0) [] (cond (eqb b 45) (45 ∷ 62 ∷ []) (b ∷ []))
 
-text-none : {b : ℕ} → b ≡ 0 → mark_text b ≡ []
+text_none : {b : ℕ} → b ≡ 0 → mark_text b ≡ []
 unfolding mark_text
-text-none e = rw e
+text_none e = rw e
 
 text_arrow : {b : ℕ} → b ≡ 45 → mark_text b ≡ 45 ∷ 62 ∷ []
 unfolding mark_text
@@ -54,112 +54,112 @@ unfolding mark_text
 text_one {b} h g = rw (ne_eqb b 0 h, ne_eqb b 45 g)
 
 module _ {k b : ℕ} where
-  chain-text : (left : ℕ) → MarkBehind k left b → k ≡ 5 → mark_text b ≡ behind_chain left
+  chain_text : (left : ℕ) → MarkBehind k left b → k ≡ 5 → mark_text b ≡ behind_chain left
   unfolding mark_text behind_chain
-  chain-text zero m h = ap mark_text (m.chain_end h refl)
-  chain-text (suc l) m h = ap mark_text (m.chain h (omega arith))
+  chain_text zero m h = ap mark_text (m.chain_end h refl)
+  chain_text (suc l) m h = ap mark_text (m.chain h (omega arith))
 
-  construct-text : (left : ℕ) → MarkBehind k left b → k ≡ 6 → mark_text b ≡ behind_construct left
+  construct_text : (left : ℕ) → MarkBehind k left b → k ≡ 6 → mark_text b ≡ behind_construct left
   unfolding mark_text behind_construct
-  construct-text zero m h = ap mark_text (m.construct_end h refl)
-  construct-text (suc l) m h = ap mark_text (m.construct h (omega arith))
+  construct_text zero m h = ap mark_text (m.construct_end h refl)
+  construct_text (suc l) m h = ap mark_text (m.construct h (omega arith))
 
-  condition-text : (left : ℕ) → MarkBehind k left b → k ≡ 9 → mark_text b ≡ behind_condition left
+  condition_text : (left : ℕ) → MarkBehind k left b → k ≡ 9 → mark_text b ≡ behind_condition left
   unfolding mark_text behind_condition
-  condition-text zero m h = ap mark_text (m.condition_end h refl)
-  condition-text (suc zero) m h = ap mark_text (m.condition-then h refl)
-  condition-text (suc (suc l)) m h = ap mark_text (m.condition h (omega arith))
+  condition_text zero m h = ap mark_text (m.condition_end h refl)
+  condition_text (suc zero) m h = ap mark_text (m.condition_then h refl)
+  condition_text (suc (suc l)) m h = ap mark_text (m.condition h (omega arith))
 
-  while-text : (left : ℕ) → MarkBehind k left b → k ≡ 10 → mark_text b ≡ behind_while left
+  while_text : (left : ℕ) → MarkBehind k left b → k ≡ 10 → mark_text b ≡ behind_while left
   unfolding mark_text behind_while
-  while-text zero m h = ap mark_text (m.while_end h refl)
-  while-text (suc l) m h = ap mark_text (m.while h (omega arith))
+  while_text zero m h = ap mark_text (m.while_end h refl)
+  while_text (suc l) m h = ap mark_text (m.while h (omega arith))
 
-  behind-text : {t C : List ℕ} {n j : ℕ} {g : Form} (left : ℕ) → k ≡ kind_at t j → MarkBehind k left b → Row t C n j g → mark_text b ≡ behind_part g left
+  behind_text : {t C : List ℕ} {n j : ℕ} {g : Form} (left : ℕ) → k ≡ kind_at t j → MarkBehind k left b → Row t C n j g → mark_text b ≡ behind_part g left
   unfolding behind_part
-  behind-text left e m (row_op h a w) = text-none (m.other (omega arith))
-  behind-text left e m (row_select h a w) = text-none (m.other (omega arith))
-  behind-text left e m (row_select_right h a w) = text-none (m.other (omega arith))
-  behind-text left e m (row_name h a w) = text-none (m.other (omega arith))
-  behind-text left e m (row_chain h a w) = chain-text left m (e ∙ h)
-  behind-text left e m (row_construct h a w) = construct-text left m (e ∙ h)
-  behind-text left e m (row_insert h a w) = text-none (m.insert (omega arith))
-  behind-text left e m (row_apply_all h a w) = text-none (m.apply_all (omega arith))
-  behind-text left e m (row_condition h a w) = condition-text left m (e ∙ h)
-  behind-text left e m (row_while h a w) = while-text left m (e ∙ h)
-  behind-text left e m (row_constant h a w r) = let l = tag_low r in text-none (m.constant (omega arith) (omega arith))
-  behind-text left e m (row_bu h a w r) = ap mark_text (m.bu (omega arith)) ∙ text_one {b = 44} (λ z. absurd (omega arith)) (λ z. absurd (omega arith))
+  behind_text left e m (row_op h a w) = text_none (m.other (omega arith))
+  behind_text left e m (row_select h a w) = text_none (m.other (omega arith))
+  behind_text left e m (row_select_right h a w) = text_none (m.other (omega arith))
+  behind_text left e m (row_name h a w) = text_none (m.other (omega arith))
+  behind_text left e m (row_chain h a w) = chain_text left m (e ∙ h)
+  behind_text left e m (row_construct h a w) = construct_text left m (e ∙ h)
+  behind_text left e m (row_insert h a w) = text_none (m.insert (omega arith))
+  behind_text left e m (row_apply_all h a w) = text_none (m.apply_all (omega arith))
+  behind_text left e m (row_condition h a w) = condition_text left m (e ∙ h)
+  behind_text left e m (row_while h a w) = while_text left m (e ∙ h)
+  behind_text left e m (row_constant h a w r) = let l = tag_low r in text_none (m.constant (omega arith) (omega arith))
+  behind_text left e m (row_bu h a w r) = ap mark_text (m.bu (omega arith)) ∙ text_one {b = 44} (λ z. absurd (omega arith)) (λ z. absurd (omega arith))
 
 module _ {k left b at : ℕ} {out : List ℕ} (m : MarkBehind k left b) where
-  pub behind-none : b ≡ 0 → BehindWalked k left at at out out
-  behind-none h = record { means = λ t C n j g e r. wrote_as (sym (text-none h) ∙ behind-text left e m r) wrote_none }
+  pub behind_none : b ≡ 0 → BehindWalked k left at at out out
+  behind_none h = record { means = λ t C n j g e r. wrote_as (sym (text_none h) ∙ behind_text left e m r) wrote_none }
 
   pub behind_arrow : {r r₂ : ℕ} {out₁ out₂ : List ℕ} → b ≡ 45 → Wrote (b ∷ []) at r out out₁ → Wrote (62 ∷ []) r r₂ out₁ out₂ → BehindWalked k left at r₂ out out₂
   behind_arrow h v w =
-      record { means = λ t C n j g e r. wrote_as (ap (λ (x : ℕ). x ∷ 62 ∷ []) h ∙ sym (text_arrow h) ∙ behind-text left e m r) (wrote_then v w) }
+      record { means = λ t C n j g e r. wrote_as (ap (λ (x : ℕ). x ∷ 62 ∷ []) h ∙ sym (text_arrow h) ∙ behind_text left e m r) (wrote_then v w) }
 
-  pub behind-mark : {r : ℕ} {out₁ : List ℕ} → (b ≡ 0 → ⊥) → (b ≡ 45 → ⊥) → Wrote (b ∷ []) at r out out₁ → BehindWalked k left at r out out₁
-  behind-mark h g w = record { means = λ t C n j f e r. wrote_as (sym (text_one h g) ∙ behind-text left e m r) w }
+  pub behind_mark : {r : ℕ} {out₁ : List ℕ} → (b ≡ 0 → ⊥) → (b ≡ 45 → ⊥) → Wrote (b ∷ []) at r out out₁ → BehindWalked k left at r out out₁
+  behind_mark h g w = record { means = λ t C n j f e r. wrote_as (sym (text_one h g) ∙ behind_text left e m r) w }
 
 -- ---- what opens a form
 module _ {k b : ℕ} (low : 5 ≤ k) (m : OpeningMark k b) where
-  none-text : {t C : List ℕ} {n i : ℕ} {f : Form} → k ≡ kind_at t i → b ≡ 0 → Row t C n i f → opening f ≡ []
+  none_text : {t C : List ℕ} {n i : ℕ} {f : Form} → k ≡ kind_at t i → b ≡ 0 → Row t C n i f → opening f ≡ []
   unfolding opening
-  none-text e h (row_op q a w) = absurd (omega arith)
-  none-text e h (row_select q a w) = absurd (omega arith)
-  none-text e h (row_select_right q a w) = absurd (omega arith)
-  none-text e h (row_name q a w) = absurd (omega arith)
-  none-text e h (row_chain q a w) = refl
-  none-text e h (row_construct q a w) = let z = m.construct (omega arith) in absurd (omega arith)
-  none-text e h (row_insert q a w) = let z = m.insert (omega arith) in absurd (omega arith)
-  none-text e h (row_apply_all q a w) = let z = m.apply_all (omega arith) in absurd (omega arith)
-  none-text e h (row_condition q a w) = let z = m.condition (omega arith) in absurd (omega arith)
-  none-text e h (row_while q a w) = let z = m.while (omega arith) in absurd (omega arith)
-  none-text e h (row_constant q a w r) = let l = tag_low r in let z = m.constant (omega arith) (omega arith) in absurd (omega arith)
-  none-text e h (row_bu q a w r) = let z = m.bu (omega arith) in absurd (omega arith)
+  none_text e h (row_op q a w) = absurd (omega arith)
+  none_text e h (row_select q a w) = absurd (omega arith)
+  none_text e h (row_select_right q a w) = absurd (omega arith)
+  none_text e h (row_name q a w) = absurd (omega arith)
+  none_text e h (row_chain q a w) = refl
+  none_text e h (row_construct q a w) = let z = m.construct (omega arith) in absurd (omega arith)
+  none_text e h (row_insert q a w) = let z = m.insert (omega arith) in absurd (omega arith)
+  none_text e h (row_apply_all q a w) = let z = m.apply_all (omega arith) in absurd (omega arith)
+  none_text e h (row_condition q a w) = let z = m.condition (omega arith) in absurd (omega arith)
+  none_text e h (row_while q a w) = let z = m.while (omega arith) in absurd (omega arith)
+  none_text e h (row_constant q a w r) = let l = tag_low r in let z = m.constant (omega arith) (omega arith) in absurd (omega arith)
+  none_text e h (row_bu q a w r) = let z = m.bu (omega arith) in absurd (omega arith)
 
-  mark-text : {t C : List ℕ} {n i : ℕ} {f : Form} → k ≡ kind_at t i → (b ≡ 0 → ⊥) → (b ≡ 37 → ⊥) → Row t C n i f → b ∷ [] ≡ opening f
+  mark_text_lem : {t C : List ℕ} {n i : ℕ} {f : Form} → k ≡ kind_at t i → (b ≡ 0 → ⊥) → (b ≡ 37 → ⊥) → Row t C n i f → b ∷ [] ≡ opening f
   unfolding opening
-  mark-text e h g (row_op q a w) = absurd (omega arith)
-  mark-text e h g (row_select q a w) = absurd (omega arith)
-  mark-text e h g (row_select_right q a w) = absurd (omega arith)
-  mark-text e h g (row_name q a w) = absurd (omega arith)
-  mark-text e h g (row_chain q a w) = absurd (h (m.chain (omega arith)))
-  mark-text e h g (row_construct q a w) = ap (λ (x : ℕ). x ∷ []) (m.construct (omega arith))
-  mark-text e h g (row_insert q a w) = ap (λ (x : ℕ). x ∷ []) (m.insert (omega arith))
-  mark-text e h g (row_apply_all q a w) = ap (λ (x : ℕ). x ∷ []) (m.apply_all (omega arith))
-  mark-text e h g (row_condition q a w) = ap (λ (x : ℕ). x ∷ []) (m.condition (omega arith))
-  mark-text e h g (row_while q a w) = ap (λ (x : ℕ). x ∷ []) (m.while (omega arith))
-  mark-text e h g (row_constant q a w r) = let l = tag_low r in absurd (g (m.constant (omega arith) (omega arith)))
-  mark-text e h g (row_bu q a w r) = ap (λ (x : ℕ). x ∷ []) (m.bu (omega arith))
+  mark_text_lem e h g (row_op q a w) = absurd (omega arith)
+  mark_text_lem e h g (row_select q a w) = absurd (omega arith)
+  mark_text_lem e h g (row_select_right q a w) = absurd (omega arith)
+  mark_text_lem e h g (row_name q a w) = absurd (omega arith)
+  mark_text_lem e h g (row_chain q a w) = absurd (h (m.chain (omega arith)))
+  mark_text_lem e h g (row_construct q a w) = ap (λ (x : ℕ). x ∷ []) (m.construct (omega arith))
+  mark_text_lem e h g (row_insert q a w) = ap (λ (x : ℕ). x ∷ []) (m.insert (omega arith))
+  mark_text_lem e h g (row_apply_all q a w) = ap (λ (x : ℕ). x ∷ []) (m.apply_all (omega arith))
+  mark_text_lem e h g (row_condition q a w) = ap (λ (x : ℕ). x ∷ []) (m.condition (omega arith))
+  mark_text_lem e h g (row_while q a w) = ap (λ (x : ℕ). x ∷ []) (m.while (omega arith))
+  mark_text_lem e h g (row_constant q a w r) = let l = tag_low r in absurd (g (m.constant (omega arith) (omega arith)))
+  mark_text_lem e h g (row_bu q a w r) = ap (λ (x : ℕ). x ∷ []) (m.bu (omega arith))
 
 module _ {C : List ℕ} {row : Val} {b at : ℕ} {out : List ℕ} (low : 5 ≤ row.tag) (m : OpeningMark row.tag b) where
   pub open_none : b ≡ 0 → OpeningWalked C row at at out out
-  open_none h = record { means = λ t n i f c e w g r. wrote_as (sym (none-text low m e h r)) wrote_none }
+  open_none h = record { means = λ t n i f c e w g r. wrote_as (sym (none_text low m e h r)) wrote_none }
 
   pub open_mark : {r : ℕ} {out₁ : List ℕ} → (b ≡ 0 → ⊥) → (b ≡ 37 → ⊥) → Wrote (b ∷ []) at r out out₁ → OpeningWalked C row at r out out₁
-  open_mark h g v = record { means = λ t n i f c e w d r. wrote_as (mark-text low m e h g r) v }
+  open_mark h g v = record { means = λ t n i f c e w d r. wrote_as (mark_text_lem low m e h g r) v }
 
   module _ {p q : ℕ} {out₁ out₂ : List ℕ} (h : b ≡ 37) (v : Wrote (b ∷ []) at p out out₁) (o : ConstantWalked C (record { tag = row.tag % 4; word = row.word }) p q out₁ out₂) where
-    constant-text : {t : List ℕ} {n i : ℕ} (f : Form) → n < 4294967296 → row.tag ≡ kind_at t i → row.word ≡ wide_at t i → Writable f → Row t C n i f → Wrote (opening f) at q out out₂
+    constant_text : {t : List ℕ} {n i : ℕ} (f : Form) → n < 4294967296 → row.tag ≡ kind_at t i → row.word ≡ wide_at t i → Writable f → Row t C n i f → Wrote (opening f) at q out out₂
     unfolding opening
-    constant-text f c e w d (row_op y a z) = absurd (omega arith)
-    constant-text f c e w d (row_select y a z) = absurd (omega arith)
-    constant-text f c e w d (row_select_right y a z) = absurd (omega arith)
-    constant-text f c e w d (row_name y a z) = absurd (omega arith)
-    constant-text f c e w d (row_chain y a z) = let x = m.chain (omega arith) in absurd (omega arith)
-    constant-text f c e w d (row_construct y a z) = let x = m.construct (omega arith) in absurd (omega arith)
-    constant-text f c e w d (row_insert y a z) = let x = m.insert (omega arith) in absurd (omega arith)
-    constant-text f c e w d (row_apply_all y a z) = let x = m.apply_all (omega arith) in absurd (omega arith)
-    constant-text f c e w d (row_condition y a z) = let x = m.condition (omega arith) in absurd (omega arith)
-    constant-text f c e w d (row_while y a z) = let x = m.while (omega arith) in absurd (omega arith)
-    constant-text {t} {n} {i} (constant x) c e w d (row_constant y a z r) =
+    constant_text f c e w d (row_op y a z) = absurd (omega arith)
+    constant_text f c e w d (row_select y a z) = absurd (omega arith)
+    constant_text f c e w d (row_select_right y a z) = absurd (omega arith)
+    constant_text f c e w d (row_name y a z) = absurd (omega arith)
+    constant_text f c e w d (row_chain y a z) = let x = m.chain (omega arith) in absurd (omega arith)
+    constant_text f c e w d (row_construct y a z) = let x = m.construct (omega arith) in absurd (omega arith)
+    constant_text f c e w d (row_insert y a z) = let x = m.insert (omega arith) in absurd (omega arith)
+    constant_text f c e w d (row_apply_all y a z) = let x = m.apply_all (omega arith) in absurd (omega arith)
+    constant_text f c e w d (row_condition y a z) = let x = m.condition (omega arith) in absurd (omega arith)
+    constant_text f c e w d (row_while y a z) = let x = m.while (omega arith) in absurd (omega arith)
+    constant_text {t} {n} {i} (constant x) c e w d (row_constant y a z r) =
         let few = d.few in
         wrote_as (ap (λ (a : ℕ). a ∷ write_obj x) h) (wrote_then v (o.means n x c (omega arith) (own_constant row (e ∙ y) (w ∙ z) r)))
-    constant-text f c e w d (row_bu y a z r) = let x = m.bu (omega arith) in absurd (omega arith)
+    constant_text f c e w d (row_bu y a z r) = let x = m.bu (omega arith) in absurd (omega arith)
 
     pub open_constant : OpeningWalked C row at q out out₂
-    open_constant = record { means = λ t n i f c e w d r. constant-text f c e w d r }
+    open_constant = record { means = λ t n i f c e w d r. constant_text f c e w d r }
 
 -- ---- what ends a form
 no_ending : {t C : List ℕ} {n i k : ℕ} {f : Form} → k < 16 → k ≡ kind_at t i → Row t C n i f → [] ≡ ending f
@@ -211,23 +211,23 @@ module _ {v at r n : ℕ} {old new out out' : List ℕ} where
           ap (λ (l : List ℕ). take n l) u.bytes ∙ take_at (lexed.unpacked Lower v) _ n (sym u.size) ∙ back
 
 -- ---- words, selectors and names
-word-text : {t C : List ℕ} {n i k v : ℕ} {f : Form} → k ≡ 1 → k ≡ kind_at t i → v ≡ wide_at t i → Row t C n i f → spelled_at (v % 4294967296) ≡ opening f
+word_text : {t C : List ℕ} {n i k v : ℕ} {f : Form} → k ≡ 1 → k ≡ kind_at t i → v ≡ wide_at t i → Row t C n i f → spelled_at (v % 4294967296) ≡ opening f
 unfolding opening write_word
-word-text {v = v} h e w (row_op {o = o} q a z) =
+word_text {v = v} h e w (row_op {o = o} q a z) =
     let l = code_below o in
     let y : v % 4294967296 ≡ op_code o = omega arith in
     ap spelled_at y ∙ spelled_of o
-word-text h e w (row_select q a z) = absurd (omega arith)
-word-text h e w (row_select_right q a z) = absurd (omega arith)
-word-text h e w (row_name q a z) = absurd (omega arith)
-word-text h e w (row_chain q a z) = absurd (omega arith)
-word-text h e w (row_construct q a z) = absurd (omega arith)
-word-text h e w (row_insert q a z) = absurd (omega arith)
-word-text h e w (row_apply_all q a z) = absurd (omega arith)
-word-text h e w (row_condition q a z) = absurd (omega arith)
-word-text h e w (row_while q a z) = absurd (omega arith)
-word-text h e w (row_constant q a z r) = absurd (omega arith)
-word-text h e w (row_bu q a z r) = absurd (omega arith)
+word_text h e w (row_select q a z) = absurd (omega arith)
+word_text h e w (row_select_right q a z) = absurd (omega arith)
+word_text h e w (row_name q a z) = absurd (omega arith)
+word_text h e w (row_chain q a z) = absurd (omega arith)
+word_text h e w (row_construct q a z) = absurd (omega arith)
+word_text h e w (row_insert q a z) = absurd (omega arith)
+word_text h e w (row_apply_all q a z) = absurd (omega arith)
+word_text h e w (row_condition q a z) = absurd (omega arith)
+word_text h e w (row_while q a z) = absurd (omega arith)
+word_text h e w (row_constant q a z r) = absurd (omega arith)
+word_text h e w (row_bu q a z r) = absurd (omega arith)
 
 number : {C : List ℕ} {v at r : ℕ} {out out' : List ℕ} → ConstantWalked C (record { tag = 0; word = v }) at r out out' → (n k : ℕ) → n < 4294967296 → v ≡ k → k ≤ 255 → Wrote (decimal k) at r out out'
 unfolding write_obj write_integer
@@ -235,45 +235,45 @@ number o n k c e l = o.means n (int (pos k)) c (omega arith) (rep_pos refl e (om
 
 module _ {C : List ℕ} {row : Val} {at r : ℕ} {out out' : List ℕ} where
   pub plain_word : row.tag ≡ 1 → Wrote (spelled_at (row.word % 4294967296)) at r out out' → PlainWalked C row at r out out'
-  plain_word h v = record { means = λ t n i f c e w l d s. wrote_as (word-text h e w s) v }
+  plain_word h v = record { means = λ t n i f c e w l d s. wrote_as (word_text h e w s) v }
 
   module _ (h : row.tag ≡ 4) (v : NameWalked row.word at r out out') where
-    name-text : {t : List ℕ} {n i : ℕ} {f : Form} → row.tag ≡ kind_at t i → row.word ≡ wide_at t i → Writable f → Row t C n i f → Wrote (opening f) at r out out'
+    name_text : {t : List ℕ} {n i : ℕ} {f : Form} → row.tag ≡ kind_at t i → row.word ≡ wide_at t i → Writable f → Row t C n i f → Wrote (opening f) at r out out'
     unfolding opening
-    name-text e w d (row_op q a z) = absurd (omega arith)
-    name-text e w d (row_select q a z) = absurd (omega arith)
-    name-text e w d (row_select_right q a z) = absurd (omega arith)
-    name-text e w d (row_name {w = x} q a z) = v.means x d.good (w ∙ z)
-    name-text e w d (row_chain q a z) = absurd (omega arith)
-    name-text e w d (row_construct q a z) = absurd (omega arith)
-    name-text e w d (row_insert q a z) = absurd (omega arith)
-    name-text e w d (row_apply_all q a z) = absurd (omega arith)
-    name-text e w d (row_condition q a z) = absurd (omega arith)
-    name-text e w d (row_while q a z) = absurd (omega arith)
-    name-text e w d (row_constant q a z s) = absurd (omega arith)
-    name-text e w d (row_bu q a z s) = absurd (omega arith)
+    name_text e w d (row_op q a z) = absurd (omega arith)
+    name_text e w d (row_select q a z) = absurd (omega arith)
+    name_text e w d (row_select_right q a z) = absurd (omega arith)
+    name_text e w d (row_name {w = x} q a z) = v.means x d.good (w ∙ z)
+    name_text e w d (row_chain q a z) = absurd (omega arith)
+    name_text e w d (row_construct q a z) = absurd (omega arith)
+    name_text e w d (row_insert q a z) = absurd (omega arith)
+    name_text e w d (row_apply_all q a z) = absurd (omega arith)
+    name_text e w d (row_condition q a z) = absurd (omega arith)
+    name_text e w d (row_while q a z) = absurd (omega arith)
+    name_text e w d (row_constant q a z s) = absurd (omega arith)
+    name_text e w d (row_bu q a z s) = absurd (omega arith)
 
-    pub plain-name : PlainWalked C row at r out out'
-    plain-name = record { means = λ t n i f c e w l d s. name-text e w d s }
+    pub plain_name : PlainWalked C row at r out out'
+    plain_name = record { means = λ t n i f c e w l d s. name_text e w d s }
 
   module _ (o : ConstantWalked C (record { tag = 0; word = row.word }) at r out out') where
-    select-text : {t : List ℕ} {n i : ℕ} {f : Form} → (row.tag ≡ 1 → ⊥) → (row.tag ≡ 4 → ⊥) → (row.tag ≡ 3 → ⊥) → n < 4294967296 → row.tag ≡ kind_at t i → row.word ≡ wide_at t i → row.tag < 5 → Writable f → Row t C n i f → Wrote (opening f) at r out out'
+    select_text : {t : List ℕ} {n i : ℕ} {f : Form} → (row.tag ≡ 1 → ⊥) → (row.tag ≡ 4 → ⊥) → (row.tag ≡ 3 → ⊥) → n < 4294967296 → row.tag ≡ kind_at t i → row.word ≡ wide_at t i → row.tag < 5 → Writable f → Row t C n i f → Wrote (opening f) at r out out'
     unfolding opening write_word
-    select-text p1 p4 p3 c e w l d (row_op q a z) = absurd (p1 (e ∙ q))
-    select-text {n = n} p1 p4 p3 c e w l d (row_select {k = k} q a z) = number o n k c (w ∙ z) d.good.1
-    select-text p1 p4 p3 c e w l d (row_select_right q a z) = absurd (p3 (e ∙ q))
-    select-text p1 p4 p3 c e w l d (row_name q a z) = absurd (p4 (e ∙ q))
-    select-text p1 p4 p3 c e w l d (row_chain q a z) = absurd (omega arith)
-    select-text p1 p4 p3 c e w l d (row_construct q a z) = absurd (omega arith)
-    select-text p1 p4 p3 c e w l d (row_insert q a z) = absurd (omega arith)
-    select-text p1 p4 p3 c e w l d (row_apply_all q a z) = absurd (omega arith)
-    select-text p1 p4 p3 c e w l d (row_condition q a z) = absurd (omega arith)
-    select-text p1 p4 p3 c e w l d (row_while q a z) = absurd (omega arith)
-    select-text p1 p4 p3 c e w l d (row_constant q a z s) = absurd (omega arith)
-    select-text p1 p4 p3 c e w l d (row_bu q a z s) = absurd (omega arith)
+    select_text p1 p4 p3 c e w l d (row_op q a z) = absurd (p1 (e ∙ q))
+    select_text {n = n} p1 p4 p3 c e w l d (row_select {k = k} q a z) = number o n k c (w ∙ z) d.good.1
+    select_text p1 p4 p3 c e w l d (row_select_right q a z) = absurd (p3 (e ∙ q))
+    select_text p1 p4 p3 c e w l d (row_name q a z) = absurd (p4 (e ∙ q))
+    select_text p1 p4 p3 c e w l d (row_chain q a z) = absurd (omega arith)
+    select_text p1 p4 p3 c e w l d (row_construct q a z) = absurd (omega arith)
+    select_text p1 p4 p3 c e w l d (row_insert q a z) = absurd (omega arith)
+    select_text p1 p4 p3 c e w l d (row_apply_all q a z) = absurd (omega arith)
+    select_text p1 p4 p3 c e w l d (row_condition q a z) = absurd (omega arith)
+    select_text p1 p4 p3 c e w l d (row_while q a z) = absurd (omega arith)
+    select_text p1 p4 p3 c e w l d (row_constant q a z s) = absurd (omega arith)
+    select_text p1 p4 p3 c e w l d (row_bu q a z s) = absurd (omega arith)
 
-    pub plain-select : (row.tag ≡ 1 → ⊥) → (row.tag ≡ 4 → ⊥) → (row.tag ≡ 3 → ⊥) → PlainWalked C row at r out out'
-    plain-select p1 p4 p3 = record { means = λ t n i f c e w l d s. select-text p1 p4 p3 c e w l d s }
+    pub plain_select : (row.tag ≡ 1 → ⊥) → (row.tag ≡ 4 → ⊥) → (row.tag ≡ 3 → ⊥) → PlainWalked C row at r out out'
+    plain_select p1 p4 p3 = record { means = λ t n i f c e w l d s. select_text p1 p4 p3 c e w l d s }
 
     module _ {r₂ : ℕ} {out₂ : List ℕ} (h : row.tag ≡ 3) (v : Wrote (114 ∷ []) r r₂ out' out₂) where
       right_text : {t : List ℕ} {n i : ℕ} {f : Form} → n < 4294967296 → row.tag ≡ kind_at t i → row.word ≡ wide_at t i → Writable f → Row t C n i f → Wrote (opening f) at r₂ out out₂

@@ -15,8 +15,8 @@ wrote_none {at} {out} = record { place = omega arith; stands = λ h g. sym (put_
 
 module _ {at r : ℕ} {out : List ℕ} (b : ℕ) where
   -- a byte past the output's end, and one inside it
-  pub wrote-past : length out ≤ at → Behind at 1 r → Wrote (b ∷ []) at r out out
-  wrote-past h q = record { place = q.is; stands = λ u v. absurd (omega arith) }
+  pub wrote_past : length out ≤ at → Behind at 1 r → Wrote (b ∷ []) at r out out
+  wrote_past h q = record { place = q.is; stands = λ u v. absurd (omega arith) }
 
   pub wrote_byte : at < length out → Behind at 1 r → Wrote (b ∷ []) at r out (set out at b)
   wrote_byte h q = record { place = q.is; stands = λ u v. set_put out at b (omega arith) }

@@ -55,7 +55,7 @@ pub record ProgramMeasured (t C D : List ℕ) (defs : ℕ) (r : Measured) : Type
 
 -- All of the text stands in front and the rest of the output is as it was; or nothing has changed.
 pub data ProgramEnd (text : List ℕ) (r : Written) (out out' : List ℕ) : Type 0 where
-  program-written : length text ≤ min (length out) written_limit → r ≡ W.Done (length text) → out' ≡ text ++ drop (length text) out → ProgramEnd text r out out'
+  program_written : length text ≤ min (length out) written_limit → r ≡ W.Done (length text) → out' ≡ text ++ drop (length text) out → ProgramEnd text r out out'
   no_room : min (length out) written_limit < length text → r ≡ W.Short → out' ≡ out → ProgramEnd text r out out'
 
 pub record ProgramWritten (t C D : List ℕ) (defs : ℕ) (r : Written) (out out' : List ℕ) : Type 0 where

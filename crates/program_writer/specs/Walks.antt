@@ -38,7 +38,7 @@ pub record MarkBehind (k left r : ℕ) : Type 0 where
   pub construct : k ≡ 6 → 0 < left → r ≡ code ","
   pub construct_end : k ≡ 6 → left ≡ 0 → r ≡ code "]"
   pub condition : k ≡ 9 → 1 < left → r ≡ code "-"
-  pub condition-then : k ≡ 9 → left ≡ 1 → r ≡ code ";"
+  pub condition_then : k ≡ 9 → left ≡ 1 → r ≡ code ";"
   pub condition_end : k ≡ 9 → left ≡ 0 → r ≡ code ")"
   pub while : k ≡ 10 → 0 < left → r ≡ code "?"
   pub while_end : k ≡ 10 → left ≡ 0 → r ≡ code ")"

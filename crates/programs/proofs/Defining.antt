@@ -13,15 +13,15 @@ use Rattle.language.specs.Tokens.{place_from}
 use Rattle.language.specs.Reading.{Got, got, no, and_then, Placed, program_of}
 use Rattle.lexer.specs.Readings.{Skipped}
 use Rattle.formtable.specs.Encoding.{encode_form, constants_from, encode_program, program_constants, encode_definitions}
-use Rattle.formtable.proofs.Lengths.{length-program, length-program-constants}
-use Rattle.formtable.proofs.Appended.{programs_appended, program-constants_appended, definitions_appended}
+use Rattle.formtable.proofs.Lengths.{length_program, length_program_constants}
+use Rattle.formtable.proofs.Appended.{programs_appended, program_constants_appended, definitions_appended}
 use Rattle.forms.specs.declared.Upto.{Upto}
 use Rattle.forms.specs.declared.FormRead.{FormRead}
 use Rattle.forms.specs.declared.FormRead.TheVariants as F
 use Rattle.programs.specs.declared.DefinitionsRead.TheVariants as D
 use Rattle.programs.specs.Bodies.{placed_at, definitions_at}
 use Rattle.forms.specs.Readings.{Ready, Run, Laid}
-use Rattle.programs.specs.Definitions.{AllNamed, none_named, more-named, PlacedMet, DefinitionsMet, definitions-read, definitions-refused}
+use Rattle.programs.specs.Definitions.{AllNamed, none_named, more_named, PlacedMet, DefinitionsMet, definitions_read, definitions_refused}
 use Rattle.forms.proofs.Laying.{run_none, run_then, run_as}
 use Rattle.forms.proofs.Equations.{then_got}
 use Rattle.programs.proofs.Bodies.{placed_got, placed_no, definitions_are, definition_after}
@@ -38,9 +38,9 @@ pub record Defining (s t₀ u₀ d₀ : List ℕ) (at n c k : ℕ) (t u d : List
   pub laid : Laid (encode_program 0 (program_of read)) (program_constants 0 (program_of read)) 0 0 t₀ u₀ n c t u
   pub listed : Run (encode_definitions 0 read) 0 d₀ k d
 
-none-laid : {t u : List ℕ} → Laid (encode_program 0 []) (program_constants 0 []) 0 0 t u 0 0 t u
+none_laid : {t u : List ℕ} → Laid (encode_program 0 []) (program_constants 0 []) 0 0 t u 0 0 t u
 unfolding encode_program program_constants
-none-laid = record { records = run_none; cells = run_none }
+none_laid = record { records = run_none; cells = run_none }
 
 none_listed : {d : List ℕ} → Run (encode_definitions 0 []) 0 d 0 d
 unfolding encode_definitions
@@ -54,22 +54,22 @@ defining_starts {s} l = record {
   is = sym (then_got (definitions_at s 0));
   counted = refl;
   named = none_named;
-  laid = none-laid;
+  laid = none_laid;
   listed = none_listed;
 }
 
 -- one definition more
 all_named : (ds : List Placed) (d : Placed) → AllNamed ds → IsName d.def.called → AllNamed (ds ++ (d ∷ []))
-all_named [] d none_named h = more-named h none_named
-all_named (e ∷ ds) d (more-named i n) h = more-named i (all_named ds d n h)
+all_named [] d none_named h = more_named h none_named
+all_named (e ∷ ds) d (more_named i n) h = more_named i (all_named ds d n h)
 
 map-append : (ds es : List Placed) → program_of (ds ++ es) ≡ program_of ds ++ program_of es
 map-append [] es = refl
 map-append (d ∷ ds) es = ap (λ (x : Prog). d.def ∷ x) (map-append ds es)
 
-more-then : (ds : List Placed) (d : Placed) (g : Got (List Placed)) → and_then (and_then g (λ es e. got (d ∷ es) e)) (λ es e. got (ds ++ es) e) ≡ and_then g (λ es e. got ((ds ++ (d ∷ [])) ++ es) e)
-more-then ds d (got es e) = ap (λ (x : List Placed). got x e) (sym (append_assoc ds (d ∷ []) es))
-more-then ds d (no n p) = refl
+more_then : (ds : List Placed) (d : Placed) (g : Got (List Placed)) → and_then (and_then g (λ es e. got (d ∷ es) e)) (λ es e. got (ds ++ es) e) ≡ and_then g (λ es e. got ((ds ++ (d ∷ [])) ++ es) e)
+more_then ds d (got es e) = ap (λ (x : List Placed). got x e) (sym (append_assoc ds (d ∷ []) es))
+more_then ds d (no n p) = refl
 
 one_program : (d : Placed) (c : ℕ) → encode_program c (program_of (d ∷ [])) ≡ encode_form c d.def.body
 unfolding encode_program
@@ -81,16 +81,16 @@ one_constants d c = append-nil (constants_from c d.def.body)
 
 module _ (ds : List Placed) (d : Placed) {n c : ℕ} {t u t₁ u₁ : List ℕ} (l : Laid (encode_program 0 (program_of ds)) (program_constants 0 (program_of ds)) 0 0 t u n c t₁ u₁) where
   forms_are : n ≡ forms_of (program_of ds)
-  forms_are = let i = length-program (program_of ds) 0 in omega (arith, l.records.ends)
+  forms_are = let i = length_program (program_of ds) 0 in omega (arith, l.records.ends)
 
   cells_are : c ≡ 0 + program_cells (program_of ds)
-  cells_are = let i = length-program-constants (program_of ds) 0 in omega (arith, l.cells.ends)
+  cells_are = let i = length_program_constants (program_of ds) 0 in omega (arith, l.cells.ends)
 
-  more-laid : {e h : ℕ} {t₂ u₂ : List ℕ} → Laid (encode_form c d.def.body) (constants_from c d.def.body) n c t₁ u₁ e h t₂ u₂ → Laid (encode_program 0 (program_of (ds ++ (d ∷ [])))) (program_constants 0 (program_of (ds ++ (d ∷ [])))) 0 0 t u e h t₂ u₂
-  more-laid w =
+  more_laid : {e h : ℕ} {t₂ u₂ : List ℕ} → Laid (encode_form c d.def.body) (constants_from c d.def.body) n c t₁ u₁ e h t₂ u₂ → Laid (encode_program 0 (program_of (ds ++ (d ∷ [])))) (program_constants 0 (program_of (ds ++ (d ∷ [])))) 0 0 t u e h t₂ u₂
+  more_laid w =
       let P = program_of ds in
       let p : encode_program 0 P ++ encode_form c d.def.body ≡ encode_program 0 (program_of (ds ++ (d ∷ []))) = ap (λ (x : List ℕ). encode_program 0 P ++ x) (sym (one_program d c)) ∙ ap (λ (x : ℕ). encode_program 0 P ++ encode_program x (program_of (d ∷ []))) cells_are ∙ sym (programs_appended P (program_of (d ∷ [])) 0) ∙ ap (λ (Q : Prog). encode_program 0 Q) (sym (map-append ds (d ∷ []))) in
-      let q : program_constants 0 P ++ constants_from c d.def.body ≡ program_constants 0 (program_of (ds ++ (d ∷ []))) = ap (λ (x : List ℕ). program_constants 0 P ++ x) (sym (one_constants d c)) ∙ ap (λ (x : ℕ). program_constants 0 P ++ program_constants x (program_of (d ∷ []))) cells_are ∙ sym (program-constants_appended P (program_of (d ∷ [])) 0) ∙ ap (λ (Q : Prog). program_constants 0 Q) (sym (map-append ds (d ∷ []))) in
+      let q : program_constants 0 P ++ constants_from c d.def.body ≡ program_constants 0 (program_of (ds ++ (d ∷ []))) = ap (λ (x : List ℕ). program_constants 0 P ++ x) (sym (one_constants d c)) ∙ ap (λ (x : ℕ). program_constants 0 P ++ program_constants x (program_of (d ∷ []))) cells_are ∙ sym (program_constants_appended P (program_of (d ∷ [])) 0) ∙ ap (λ (Q : Prog). program_constants 0 Q) (sym (map-append ds (d ∷ []))) in
       record { records = run_as p (run_then l.records w.records); cells = run_as q (run_then l.cells w.cells) }
 
   more_listed : {k : ℕ} {x x₁ x₂ : List ℕ} → Run (encode_definitions 0 ds) 0 x k x₁ → Run (encode_definitions n (d ∷ [])) k x₁ (k + 1) x₂ → Run (encode_definitions 0 (ds ++ (d ∷ []))) 0 x (k + 1) x₂
@@ -104,7 +104,7 @@ module _ (s : List ℕ) {t₀ u₀ d₀ : List ℕ} {at n c k : ℕ} {t u d : Li
   definitions_end e =
       let z : definitions_at s at ≡ got [] (place_from s at) = definitions_are s at w.ready.inside ∙ rw (eq-eqb (place_from s at) (length s) (sym i.is ∙ e)) in
       let v : definitions_at s 0 ≡ got w.read (place_from s at) = w.is ∙ ap (λ (g : Got (List Placed)). and_then g (λ ds e. got (w.read ++ ds) e)) z ∙ ap (λ (x : List Placed). got x (place_from s at)) (append-nil w.read) in
-      rw v (definitions-read refl w.counted w.named w.laid w.listed)
+      rw v (definitions_read refl w.counted w.named w.laid w.listed)
 
   pub definition_requires : Ready s p n c
   definition_requires = let b = w.ready in record { short = b.short; inside = omega (arith, b.inside, i.high); forms = omega (arith, b.forms, i.low); cells = omega (arith, b.cells, i.low) }
@@ -114,10 +114,10 @@ module _ (s : List ℕ) {t₀ u₀ d₀ : List ℕ} {at n c k : ℕ} {t u d : Li
     next = definitions_are s at w.ready.inside ∙ rw (ne_eqb (place_from s at) (length s) (λ z. o (i.is ∙ z)), ← i.is)
 
     module _ {t₁ u₁ d₁ : List ℕ} {r : FormRead} (m : PlacedMet n c k t u d r t₁ u₁ d₁ (placed_at s p)) where
-      pub definitions-stop : {j q : ℕ} {t' u' d' : List ℕ} → r ≡ F.No j q → DefinitionsMet t₀ u₀ d₀ (D.No j q) t' u' d' (definitions_at s 0)
-      definitions-stop {j} {q} e =
+      pub definitions_stop : {j q : ℕ} {t' u' d' : List ℕ} → r ≡ F.No j q → DefinitionsMet t₀ u₀ d₀ (D.No j q) t' u' d' (definitions_at s 0)
+      definitions_stop {j} {q} e =
           let z : definitions_at s at ≡ no j q = next ∙ ap (λ (g : Got Placed). and_then g (λ d e. and_then (definitions_at s e) (λ ds e. got (d ∷ ds) e))) (placed_no m e) in
-          rw (w.is ∙ ap (λ (g : Got (List Placed)). and_then g (λ ds e. got (w.read ++ ds) e)) z) (definitions-refused refl)
+          rw (w.is ∙ ap (λ (g : Got (List Placed)). and_then g (λ ds e. got (w.read ++ ds) e)) z) (definitions_refused refl)
 
       module _ {x : Upto} (e : r ≡ F.Got x) where
         ahead : After s at x
@@ -135,12 +135,12 @@ module _ (s : List ℕ) {t₀ u₀ d₀ : List ℕ} {at n c k : ℕ} {t u d : Li
               ready = ahead.ready;
               few = omega (arith, w.few, ahead.behind);
               read = w.read ++ (y.definition ∷ []);
-              is = w.is ∙ ap (λ (g : Got (List Placed)). and_then g (λ ds e. got (w.read ++ ds) e)) z ∙ more-then w.read y.definition (definitions_at s x.next);
+              is = w.is ∙ ap (λ (g : Got (List Placed)). and_then g (λ ds e. got (w.read ++ ds) e)) z ∙ more_then w.read y.definition (definitions_at s x.next);
               counted = omega (arith, w.counted);
               named = all_named w.read y.definition w.named y.named;
-              laid = more-laid w.read y.definition w.laid y.laid;
+              laid = more_laid w.read y.definition w.laid y.laid;
               listed = more_listed w.read y.definition w.laid w.listed y.listed;
             }
 
-pub definitions-count-fits : {s t₀ u₀ d₀ : List ℕ} {at n c k : ℕ} {t u d : List ℕ} → Defining s t₀ u₀ d₀ at n c k t u d → Fits w64 (k + 1)
-definitions-count-fits w = record { fits = omega (arith, w.few, w.ready.inside, w.ready.short) }
+pub definitions_count_fits : {s t₀ u₀ d₀ : List ℕ} {at n c k : ℕ} {t u d : List ℕ} → Defining s t₀ u₀ d₀ at n c k t u d → Fits w64 (k + 1)
+definitions_count_fits w = record { fits = omega (arith, w.few, w.ready.inside, w.ready.short) }

@@ -15,11 +15,11 @@ use Rattle.packing.specs.Packing.{packed}
 use Rattle.language.specs.Reading.{Got, no, Placed, is_in, none_twice}
 use Rattle.tables.specs.Tables.{put, field}
 use Rattle.tables.proofs.Put.{put_inside}
-use Rattle.formtable.proofs.Lengths.{length-definitions}
-use Rattle.formtable.proofs.Names.{name-test}
+use Rattle.formtable.proofs.Lengths.{length_definitions}
+use Rattle.formtable.proofs.Names.{name_test}
 use Rattle.formtable.specs.Encoding.{low_of, high_of, encode_definitions, named}
 use Rattle.programs.specs.declared.TwiceRead.TheVariants as T
-use Rattle.programs.specs.Definitions.{AllNamed, none_named, more-named, defined_name, place_at, earlier_of, Listed, Compared, TwiceMet}
+use Rattle.programs.specs.Definitions.{AllNamed, none_named, more_named, defined_name, place_at, earlier_of, Listed, Compared, TwiceMet}
 
 -- ---- is_earlier
 later : (w : List ℕ) (ds : List Placed) (j i : ℕ) → j ≤ i → is_in w (earlier_of ds j) ≡ true → is_in w (earlier_of ds i) ≡ true
@@ -49,7 +49,7 @@ module _ {d : List ℕ} {i j lo hi : ℕ} {r : Bool} (a : lo ≡ get_or d (i * 4
   same_names : (ds : List Placed) → Listed d ds → i < length ds → same_bytes (defined_name ds j) (defined_name ds i) ≡ r
   unfolding named
   same_names ds t h =
-      sym (name-test (defined_name ds j) (defined_name ds i) (t.named j (omega arith)) (t.named i h))
+      sym (name_test (defined_name ds j) (defined_name ds i) (t.named j (omega arith)) (t.named i h))
       ∙ rw (← (t.low j (omega arith)), ← (t.high j (omega arith)), ← (t.low i h), ← (t.high i h), ← a, ← b) (sym m)
 
   pub earlier_found : r ≡ true → Compared d i true
@@ -121,8 +121,8 @@ records r (d ∷ ds) (suc i) h =
 
 named_at : (ds : List Placed) → AllNamed ds → (i : ℕ) → i < length ds → IsName (defined_name ds i)
 named_at [] none_named i h = absurd (omega arith)
-named_at (d ∷ ds) (more-named e n) zero h = e
-named_at (d ∷ ds) (more-named e n) (suc i) h = named_at ds n i (omega arith)
+named_at (d ∷ ds) (more_named e n) zero h = e
+named_at (d ∷ ds) (more_named e n) (suc i) h = named_at ds n i (omega arith)
 
 listed_put : (d : List ℕ) (ds : List Placed) → AllNamed ds → Listed (put d 0 (encode_definitions 0 ds)) ds
 listed_put d ds n = record {
@@ -134,7 +134,7 @@ listed_put d ds n = record {
   where
     front : (i j : ℕ) → i < length ds → j < i * 4 + 4 → get_or (put d 0 (encode_definitions 0 ds)) j 0 ≡ get_or (encode_definitions 0 ds) j 0
     front i j h l =
-        let k = length-definitions ds 0 in
+        let k = length_definitions ds 0 in
         let z : 0 + j ≡ j = omega arith in
         ap (λ (x : ℕ). get_or (put d 0 (encode_definitions 0 ds)) x 0) (sym z) ∙ put_inside d 0 j (encode_definitions 0 ds) (omega arith) (omega arith)
 

@@ -29,20 +29,20 @@ place_at ds i = get_or (map (λ (d : Placed). d.place) ds) i 0
 
 pub data AllNamed : List Placed → Type 0 where
   none_named : AllNamed []
-  more-named : {d : Placed} {ds : List Placed} → IsName d.def.called → AllNamed ds → AllNamed (d ∷ ds)
+  more_named : {d : Placed} {ds : List Placed} → IsName d.def.called → AllNamed ds → AllNamed (d ∷ ds)
 
 pub record DefinitionPut (k name root place : ℕ) (d d' : List ℕ) : Type 0 where
   pub is : d' ≡ record_put d k (low_of name) (high_of name) root place
 
 -- one definition: its body from record n on, its own record k
 pub data PlacedMet (n c k : ℕ) (t u d : List ℕ) (r : FormRead) (t' u' d' : List ℕ) : Got Placed → Type 0 where
-  placed-read : {q : Placed} {e : ℕ} {x : Upto} → r ≡ F.Got x → x.next ≡ e → IsName q.def.called → FormLaid q.def.body n c t u x t' u' → Run (encode_definitions n (q ∷ [])) k d (k + 1) d' → PlacedMet n c k t u d r t' u' d' (got q e)
-  placed-refused : {j p : ℕ} → r ≡ F.No j p → PlacedMet n c k t u d r t' u' d' (no j p)
+  placed_read : {q : Placed} {e : ℕ} {x : Upto} → r ≡ F.Got x → x.next ≡ e → IsName q.def.called → FormLaid q.def.body n c t u x t' u' → Run (encode_definitions n (q ∷ [])) k d (k + 1) d' → PlacedMet n c k t u d r t' u' d' (got q e)
+  placed_refused : {j p : ℕ} → r ≡ F.No j p → PlacedMet n c k t u d r t' u' d' (no j p)
 
 -- all definitions, from the first records on
 pub data DefinitionsMet (t u d : List ℕ) (r : DefinitionsRead) (t' u' d' : List ℕ) : Got (List Placed) → Type 0 where
-  definitions-read : {ds : List Placed} {e k n c : ℕ} → r ≡ D.Got k n c → k ≡ length ds → AllNamed ds → Laid (encode_program 0 (program_of ds)) (program_constants 0 (program_of ds)) 0 0 t u n c t' u' → Run (encode_definitions 0 ds) 0 d k d' → DefinitionsMet t u d r t' u' d' (got ds e)
-  definitions-refused : {j p : ℕ} → r ≡ D.No j p → DefinitionsMet t u d r t' u' d' (no j p)
+  definitions_read : {ds : List Placed} {e k n c : ℕ} → r ≡ D.Got k n c → k ≡ length ds → AllNamed ds → Laid (encode_program 0 (program_of ds)) (program_constants 0 (program_of ds)) 0 0 t u n c t' u' → Run (encode_definitions 0 ds) 0 d k d' → DefinitionsMet t u d r t' u' d' (got ds e)
+  definitions_refused : {j p : ℕ} → r ≡ D.No j p → DefinitionsMet t u d r t' u' d' (no j p)
 
 -- ---- names that are defined twice
 -- the names before definition i, the nearest first
@@ -82,5 +82,5 @@ pub record ProgramLaid (s : List ℕ) (P : Prog) (e : ℕ) (t u d : List ℕ) (k
   pub long : length u' ≡ length u
 
 pub data ProgramMet (s t u d : List ℕ) (r : ProgramRead) (t' u' d' : List ℕ) : Got Prog → Type 0 where
-  program-read : {Q : Prog} {e k n c : ℕ} → r ≡ P.Got k n c → ProgramLaid s Q e t u d k n c t' u' d' → ProgramMet s t u d r t' u' d' (got Q e)
-  program-refused : {j p : ℕ} → r ≡ P.No j p → ProgramMet s t u d r t' u' d' (no j p)
+  program_read : {Q : Prog} {e k n c : ℕ} → r ≡ P.Got k n c → ProgramLaid s Q e t u d k n c t' u' d' → ProgramMet s t u d r t' u' d' (got Q e)
+  program_refused : {j p : ℕ} → r ≡ P.No j p → ProgramMet s t u d r t' u' d' (no j p)

@@ -25,9 +25,9 @@ pub record Alike (o o' : Outcome) : Type 0 where
 abbrev shown_text : Answer → List ℕ → List ℕ
 shown_text a text = line (numbers a) ++ cond (eqb a.number 20) (line text) []
 
-pub same-shown : {o o' : Outcome} → Alike o o' → shown o ≡ shown o'
+pub same_shown : {o o' : Outcome} → Alike o o' → shown o ≡ shown o'
 unfolding shown
-same-shown {o} {o'} s =
+same_shown {o} {o'} s =
     ap (shown_text o.answer) s.text ∙ ap (λ (a : Answer). shown_text a (take a.length o'.lent.output)) s.answer
 
 alike-cond : (t : Bool) {o o' p p' : Outcome} → Alike o o' → Alike p p' → Alike (cond t o p) (cond t o' p')
@@ -35,19 +35,19 @@ alike-cond true s r = s
 alike-cond false s r = r
 
 module _ (L L' : Lent) (room : length L.output ≡ length L'.output) where
-  alike-untouched : (n : ℕ) → Alike (untouched n L) (untouched n L')
-  alike-untouched n = record { answer = refl; text = refl }
+  alike_untouched : (n : ℕ) → Alike (untouched n L) (untouched n L')
+  alike_untouched n = record { answer = refl; text = refl }
 
-  alike-scan : (s c : ℕ) (x : Obj) (w : Scan) → Alike (scanned L s c x w) (scanned L' s c x w)
-  alike-scan s c x (on o r) =
+  alike_scan : (s c : ℕ) (x : Obj) (w : Scan) → Alike (scanned L s c x w) (scanned L' s c x w)
+  alike_scan s c x (on o r) =
       let t = write_obj x in
       record { answer = refl; text = take-append_seam t (drop (length t) L.output) ∙ sym (take-append_seam t (drop (length t) L'.output)) }
-  alike-scan s c x short = record { answer = refl; text = refl }
-  alike-scan s c x deep = record { answer = refl; text = refl }
+  alike_scan s c x short = record { answer = refl; text = refl }
+  alike_scan s c x deep = record { answer = refl; text = refl }
 
   alike_end : (r : RunEnd) → Alike (ended L r) (ended L' r)
   alike_end (done x s c) =
-      subst (λ (n : ℕ). Alike (ended L (done x s c)) (scanned L' s c x (scan (write_obj x) 0 (min n 16384)))) room (alike-scan s c x (scan (write_obj x) 0 (room_in L)))
+      subst (λ (n : ℕ). Alike (ended L (done x s c)) (scanned L' s c x (scan (write_obj x) 0 (min n 16384)))) room (alike_scan s c x (scan (write_obj x) 0 (room_in L)))
   alike_end (fell s c) = record { answer = refl; text = refl }
   alike_end (ran_out w s c) = record { answer = refl; text = refl }
   alike_end too_few = record { answer = refl; text = refl }
@@ -60,18 +60,18 @@ module _ (L L' : Lent) (room : length L.output ≡ length L'.output) where
   abbrev refused : Meter → Lent → Bool
   refused b l = ltb 4096 b.cells || not (eqb (length l.forms) 8192) || not (eqb (length l.cells) (4 * b.cells))
 
-  pub alike-call : (program object : List ℕ) (b : Meter) → refused b L ≡ refused b L' → Alike (run_call program object b L) (run_call program object b L')
+  pub alike_call : (program object : List ℕ) (b : Meter) → refused b L ≡ refused b L' → Alike (run_call program object b L) (run_call program object b L')
   unfolding run_call
-  alike-call program object b e =
+  alike_call program object b e =
       let follows = alike_read 1 (read_program program) (λ P. alike_read 2 (read_object object) (λ x. alike_end (run one P x b))) in
-      alike-cond (ltb 8192 (length program)) (alike-untouched 1)
-      (alike-cond (ltb 16384 (length object)) (alike-untouched 2)
-      (alike-cond (ltb 1000000 b.steps) (alike-untouched 3)
-      (alike-cond (ltb 256 b.names) (alike-untouched 4)
-      (rw (← e) (alike-cond (refused b L) (alike-untouched 5) follows)))))
+      alike-cond (ltb 8192 (length program)) (alike_untouched 1)
+      (alike-cond (ltb 16384 (length object)) (alike_untouched 2)
+      (alike-cond (ltb 1000000 b.steps) (alike_untouched 3)
+      (alike-cond (ltb 256 b.names) (alike_untouched 4)
+      (rw (← e) (alike-cond (refused b L) (alike_untouched 5) follows)))))
 
-  pub same-refused : (b : Meter) → length L.forms ≡ length L'.forms → (b.cells ≤ 4096 → length L.cells ≡ length L'.cells) → refused b L ≡ refused b L'
-  same-refused b f h = go (ltb 4096 b.cells) (λ e. h (ltb-false 4096 b.cells e))
+  pub same_refused : (b : Meter) → length L.forms ≡ length L'.forms → (b.cells ≤ 4096 → length L.cells ≡ length L'.cells) → refused b L ≡ refused b L'
+  same_refused b f h = go (ltb 4096 b.cells) (λ e. h (ltb-false 4096 b.cells e))
     where
       go : (t : Bool) → (t ≡ false → length L.cells ≡ length L'.cells) → (t || not (eqb (length L.forms) 8192) || not (eqb (length L.cells) (4 * b.cells))) ≡ (t || not (eqb (length L'.forms) 8192) || not (eqb (length L'.cells) (4 * b.cells)))
       go true g = refl

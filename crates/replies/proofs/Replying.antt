@@ -26,7 +26,7 @@ use Rattle.call_lines.specs.declared.Lines.{Lines}
 use Rattle.call_lines.specs.declared.Lines.TheVariants.{Three, Other}
 use Rattle.nattglod.specs.Calls.{budgets, lends, RunAnswered}
 use Rattle.replies.specs.Replies.{Replied, CellsLent, LinesEnd, call_reply, lines_reply}
-use Rattle.replies.proofs.Alike.{same-shown, alike-call, same-refused}
+use Rattle.replies.proofs.Alike.{same_shown, alike_call, same_refused}
 
 -- another text that is the same, with a larger bound
 as_text : {t u : List ℕ} {m n : ℕ} {out out' : List ℕ} {at r : ℕ} → t ≡ u → m ≤ n → Printed t m out at r out' → Printed u n out at r out'
@@ -36,14 +36,14 @@ as_text {t} {u} {m} {n} {out} {out'} {at} {r} e h p =
 
 -- ---- a call: buffers of other contents show the same
 module _ (m : Meter) (forms table output : List ℕ) {n : ℕ} (f : 8192 ≡ length forms) (t : 16384 ≡ length table) (o : 16384 ≡ length output) (l : CellsLent m.cells n) where
-  call-shown : (program object : List ℕ) → shown (run_call program object m (lends forms (take n table) output)) ≡ shown (run_call program object m (lent_for m))
-  call-shown program object =
+  call_shown : (program object : List ℕ) → shown (run_call program object m (lends forms (take n table) output)) ≡ shown (run_call program object m (lent_for m))
+  call_shown program object =
       let few = l.fits in
       let lent : length (take n table) ≡ n = length-take-le n table (omega arith) in
       let e = sym f ∙ sym (length-replicate {A = ℕ} 8192 0) in
       let room = sym o ∙ sym (length-replicate {A = ℕ} 16384 0) in
-      same-shown (alike-call (lends forms (take n table) output) (lent_for m) room program object m
-      (same-refused (lends forms (take n table) output) (lent_for m) room m e (λ h. lent ∙ l.four h ∙ sym (length-replicate {A = ℕ} (4 * m.cells) 0))))
+      same_shown (alike_call (lends forms (take n table) output) (lent_for m) room program object m
+      (same_refused (lends forms (take n table) output) (lent_for m) room m e (λ h. lent ∙ l.four h ∙ sym (length-replicate {A = ℕ} (4 * m.cells) 0))))
 
   pub call_printed : (program object : List ℕ) {a : Answer} {forms' cells' output' out out' : List ℕ} {r : ℕ} → RunAnswered program object (budgets m.steps m.names m.cells) (lends forms (take n table) output) a forms' cells' output'
       → Printed (shown_as a output') 16451 out 0 r out' → Printed (call_reply program object m) 16451 out 0 r out'
@@ -51,7 +51,7 @@ module _ (m : Meter) (forms table output : List ℕ) {n : ℕ} (f : 8192 ≡ len
   call_printed program object {a} {forms'} {cells'} {output'} w p =
       let c = run_call program object m (lends forms (take n table) output) in
       let same : shown_as a output' ≡ shown c = rw (w.answer, w.output_after) in
-      as_text (same ∙ call-shown program object) (omega arith) p
+      as_text (same ∙ call_shown program object) (omega arith) p
 
 -- ---- three lines
 abbrev other : List ℕ

@@ -15,17 +15,17 @@ use Rattle.reread.specs.declared.Reread.{Reread}
 use Rattle.reread.specs.declared.Reread.TheVariants as R
 use Rattle.reread.specs.Rereading.{Inside}
 
-pub refused-inside : {j p : ℕ} {out : List ℕ} → Inside (R.Refused j p) out
-refused-inside = record { ends = λ n e. absurd (let z : ◌≡◌ {A = ℕ} 0 1 = cc in omega arith) }
+pub refused_inside : {j p : ℕ} {out : List ℕ} → Inside (R.Refused j p) out
+refused_inside = record { ends = λ n e. absurd (let z : ◌≡◌ {A = ℕ} 0 1 = cc in omega arith) }
 
-pub unwritten-inside : {out : List ℕ} → Inside R.Unwritten out
-unwritten-inside = record { ends = λ n e. absurd (let z : ◌≡◌ {A = ℕ} 0 1 = cc in omega arith) }
+pub unwritten_inside : {out : List ℕ} → Inside R.Unwritten out
+unwritten_inside = record { ends = λ n e. absurd (let z : ◌≡◌ {A = ℕ} 0 1 = cc in omega arith) }
 
-pub program-inside : {t C D out out' : List ℕ} {k n : ℕ} {r : ProgramText} → ProgramWritten t C D k r out out' → length out' ≡ length out → r ≡ P.Done n → Inside (R.Back n) out'
-program-inside {n = n} w same e = record { ends = λ m q. let z : n ≡ m = cc in omega (arith, w.fits n e) }
+pub program_inside : {t C D out out' : List ℕ} {k n : ℕ} {r : ProgramText} → ProgramWritten t C D k r out out' → length out' ≡ length out → r ≡ P.Done n → Inside (R.Back n) out'
+program_inside {n = n} w same e = record { ends = λ m q. let z : n ≡ m = cc in omega (arith, w.fits n e) }
 
-pub object-inside : {C out out' : List ℕ} {v : Val} {n : ℕ} {r : ObjectText} → ObjectWritten C v r out out' → length out' ≡ length out → r ≡ O.Done n → Inside (R.Back n) out'
-object-inside {n = n} w same e = record { ends = λ m q. let z : n ≡ m = cc in omega (arith, w.within.ends n e) }
+pub object_inside : {C out out' : List ℕ} {v : Val} {n : ℕ} {r : ObjectText} → ObjectWritten C v r out out' → length out' ≡ length out → r ≡ O.Done n → Inside (R.Back n) out'
+object_inside {n = n} w same e = record { ends = λ m q. let z : n ≡ m = cc in omega (arith, w.within.ends n e) }
 
 pub printed_inside : {r : Reread} {out : List ℕ} {n : ℕ} → Inside r out → r ≡ R.Back n → n ≤ length out
 printed_inside i e = i.ends _ e

@@ -9,10 +9,10 @@ use Rattle.language.specs.Meanings.{drop_last, last_of, turned_onto, turned, to_
 use Rattle.language.specs.declared.Val.{Val}
 use Rattle.cells.specs.Cells.{Rep, rep_nil, rep_more, Same, sequence_val, cell_put}
 use Rattle.cells.specs.Parts.{Sized, Headed, Tailed, Nth}
-use Rattle.cells.proofs.Reps.{val_same, same_refl, same-trans, rep_ext, cell_same, rep_new}
+use Rattle.cells.proofs.Reps.{val_same, same_refl, same_trans, rep_ext, cell_same, rep_new}
 use Rattle.sequences.specs.Making.{Space, NewSequence, PutBefore, take_objs, Prepended, Rearranged, all_but_last}
 use Rattle.cells.proofs.Lengths.{rep_length}
-use Rattle.sequences.proofs.Parts.{append-nil, length-append_one, take_all, nth_last, take_but_last, length_but_last}
+use Rattle.sequences.proofs.Parts.{append-nil, length_append_one, take_all, nth_last, take_but_last, length_but_last}
 
 -- ---- one place
 -- a sequence's value is its first cell's link and its length
@@ -66,8 +66,8 @@ last_less {C} {C'} {v} {o} {r} {n} {p} z f g = record { means = go }
         rw j (stands_as (append-nil (take_objs (length_of xs) (x :: xs)) ∙ take_but_last x xs) (h.means (x :: xs) nil (omega arith) (rw j at s) rv (nil_rep f)))
 
 -- ---- the first place behind the others
-pub left-none : {C : List ℕ} {v : Val} {n p : ℕ} → n ≡ 0 → Rearranged to_left C v n p v C
-left-none {C} {v} {n} {p} z = record { means = go }
+pub left_none : {C : List ℕ} {v : Val} {n p : ℕ} → n ≡ 0 → Rearranged to_left C v n p v C
+left_none {C} {v} {n} {p} z = record { means = go }
   where
     go : (xs : Objs) → length_of xs ≡ n → Space C p (length_of (to_left xs)) → Rep C p v (seq xs) → NewSequence C p (length_of (to_left xs)) (to_left xs) v C
     go nil e s r = record { rep = rep_ext (same_refl C p) (omega arith) r; same = same_refl C p }
@@ -78,7 +78,7 @@ left_far {C} {C'} {v} {r} {n} {p} z h = record { means = go }
   where
     go : (xs : Objs) → length_of xs ≡ n → Space C p (length_of (to_left xs)) → Rep C p v (seq xs) → NewSequence C p (length_of (to_left xs)) (to_left xs) r C'
     go nil e s rv = absurd (z (sym e))
-    go (x :: xs) e s rv = absurd (omega (arith, s.far, length-append_one xs x))
+    go (x :: xs) e s rv = absurd (omega (arith, s.far, length_append_one xs x))
 
 pub left_is : {C C₁ C₂ : List ℕ} {v x others o last r : Val} {n p : ℕ} → (n ≡ 0 → ⊥) → Headed C v x → Tailed C v others → o ≡ sequence_val 0 0 → PutBefore C p x o last C₁ → length C₁ ≡ length C → Prepended C₁ others (n - 1) (p + 1) last r C₂ → Rearranged to_left C v n p r C₂
 left_is {C} {C₁} {C₂} {v} {x} {others} {o} {last} {r} {n} {p} z h t f b e₁ g = record { means = go }
@@ -86,7 +86,7 @@ left_is {C} {C₁} {C₂} {v} {x} {others} {o} {last} {r} {n} {p} z h t f b e₁
     go : (xs : Objs) → length_of xs ≡ n → Space C p (length_of (to_left xs)) → Rep C p v (seq xs) → NewSequence C p (length_of (to_left xs)) (to_left xs) r C₂
     go nil e s rv = absurd (z (sym e))
     go (y :: ys) e s rv =
-        let j = length-append_one ys y in
+        let j = length_append_one ys y in
         let u : p < 4294967296 = omega (arith, s.far) in
         let i : n - 1 ≡ length_of ys = omega arith in
         let g₁ : Prepended C₁ others (length_of ys) (p + 1) last r C₂ = rw i at g in
@@ -94,7 +94,7 @@ left_is {C} {C₁} {C₂} {v} {x} {others} {o} {last} {r} {n} {p} z h t f b e₁
         let k = g₁.means ys (y :: nil) (omega arith) (record { far = omega (arith, s.far, j); long = omega (arith, s.long, j) }) (rep_ext st.same (omega arith) (t.means p y ys u rv)) st.rep in
         let a : p + 1 + length_of ys ≡ p + length_of (ys +++ (y :: nil)) = omega (arith, j) in
         let w : take_objs (length_of ys) ys ≡ ys = take_all (length_of ys) ys (omega arith) in
-        record { rep = rw (← a) (subst (λ (t : Objs). Rep C₂ (p + 1 + length_of ys) r (seq t)) (ap (λ (q : Objs). q +++ (y :: nil)) w) k.rep); same = same-trans (omega arith) st.same k.same }
+        record { rep = rw (← a) (subst (λ (t : Objs). Rep C₂ (p + 1 + length_of ys) r (seq t)) (ap (λ (q : Objs). q +++ (y :: nil)) w) k.rep); same = same_trans (omega arith) st.same k.same }
 
 -- ---- the last place before the others
 pub right_none : {C : List ℕ} {v : Val} {n p : ℕ} → n ≡ 0 → Rearranged to_right C v n p v C
@@ -127,7 +127,7 @@ right_is {C} {C₁} {C₂} {v} {x} {others} {o} {r} {n} {p} z t f g e₁ b = rec
         let a : p + length_of ys + 1 ≡ p + suc (length_of (drop_last y ys)) = omega arith in
         let l = rw (nth_last y ys) at (t₁.means p (y :: ys) u (omega arith) rv) in
         let st = b₁.means (last_of y ys) (drop_last y ys) (record { far = omega (arith, s.far, j); long = omega (arith, s.long, j, e₁) }) (rep_ext k.same (omega arith) l) k.rep in
-        record { rep = rw (← a) st.rep; same = same-trans (omega arith) k.same st.same }
+        record { rep = rw (← a) st.rep; same = same_trans (omega arith) k.same st.same }
 
 -- ---- from the last place to the first
 pub record TurnNow (C₀ : List ℕ) (p : ℕ) (xs : Objs) (C : List ℕ) (left : ℕ) (rest made : Val) (free : ℕ) : Type 0 where
@@ -146,15 +146,15 @@ pub record Turning (C₀ : List ℕ) (v : Val) (n p : ℕ) (C : List ℕ) (rest 
   pub len : length C ≡ length C₀
   pub means : (xs : Objs) → length_of xs ≡ n → Space C₀ p n → Rep C₀ p v (seq xs) → TurnNow C₀ p xs C left rest made free
 
-length-onto : (xs ys : Objs) → length_of (turned_onto xs ys) ≡ length_of xs + length_of ys
-length-onto nil ys = omega arith
-length-onto (x :: xs) ys = length-onto xs (x :: ys) ∙ (omega arith)
+length_onto : (xs ys : Objs) → length_of (turned_onto xs ys) ≡ length_of xs + length_of ys
+length_onto nil ys = omega arith
+length_onto (x :: xs) ys = length_onto xs (x :: ys) ∙ (omega arith)
 
-pub length-turned : (xs : Objs) → length_of (turned xs) ≡ length_of xs
-length-turned xs = length-onto xs nil ∙ (omega arith)
+pub length_turned : (xs : Objs) → length_of (turned xs) ≡ length_of xs
+length_turned xs = length_onto xs nil ∙ (omega arith)
 
 pub turn_far : {C C' : List ℕ} {v r : Val} {n p : ℕ} → 4294967295 - p < n → Rearranged turned C v n p r C'
-turn_far h = record { means = λ xs e s rv. absurd (omega (arith, s.far, length-turned xs)) }
+turn_far h = record { means = λ xs e s rv. absurd (omega (arith, s.far, length_turned xs)) }
 
 pub turn_start : {C : List ℕ} {n p : ℕ} {v made : Val} → n ≤ 4294967295 - p → p < 4294967296 → made ≡ sequence_val 0 0 → Turning C v n p C v made n p
 turn_start {C} {n} {p} h u f = record { sum = refl; most = omega arith; fits = omega arith; len = refl; means = λ xs e s rv. record { ahead = xs; done = nil; long = e; still = rv; rep = nil_rep f; same = same_refl C p; whole = refl } }
@@ -163,7 +163,7 @@ turn_now : {C₀ C C' : List ℕ} {p free left : ℕ} {rest made x rest₁ r : V
 turn_now q nil z e u l sp h t b ra done rd s w = absurd (omega arith)
 turn_now {free = free} q (y :: ys) z e u l sp h t b ra done rd s w =
     let st = b.means y done sp (h.means free y ys u ra) rd in
-    record { ahead = ys; done = y :: done; long = omega arith; still = rep_ext st.same (omega arith) (t.means free y ys u ra); rep = st.rep; same = same-trans l s st.same; whole = w }
+    record { ahead = ys; done = y :: done; long = omega arith; still = rep_ext st.same (omega arith) (t.means free y ys u ra); rep = st.rep; same = same_trans l s st.same; whole = w }
 
 turn_step : {C₀ C C' : List ℕ} {n p left free : ℕ} {v rest made x rest₁ r : Val} (q : ℕ) → left ≡ suc q → Turning C₀ v n p C rest made left free → Headed C rest x → Tailed C rest rest₁ → PutBefore C free x made r C' → length C' ≡ length C → Turning C₀ v n p C' rest₁ r q (free + 1)
 turn_step {C₀} {C} {C'} {n} {p} {left} {free} {v} {rest} {made} {x} {rest₁} {r} q z g h t b e = record { sum = omega (arith, g.sum); most = omega (arith, g.most); fits = g.fits; len = e ∙ g.len; means = go }
@@ -185,7 +185,7 @@ turn_end {C₀} {C} {n} {p} {left} {free} {v} {rest} {made} h g = record { means
   where
     go : (xs : Objs) → length_of xs ≡ n → Space C₀ p (length_of (turned xs)) → Rep C₀ p v (seq xs) → NewSequence C₀ p (length_of (turned xs)) (turned xs) made C
     go xs e s rv =
-        let i : length_of (turned xs) ≡ n = length-turned xs ∙ e in
+        let i : length_of (turned xs) ≡ n = length_turned xs ∙ e in
         let m = g.means xs e (rw i at s) rv in
         let j : p + length_of (turned xs) ≡ free = omega (arith, g.sum) in
         record { rep = rw j (turn_done xs m.ahead (omega (arith, m.long)) m.whole m.rep); same = m.same }

@@ -12,10 +12,10 @@ use Rattle.language.specs.Objects.{seq, Objs, length_of, nth_obj}
 use Rattle.language.specs.declared.Val.{Val}
 use Rattle.cells.specs.Cells.{Rep, cell_put}
 use Rattle.cells.specs.Parts.{drop_objs, Headed, Tailed}
-use Rattle.cells.proofs.Reps.{same_refl, same-fewer, same-trans, rep_ext, cell_same, length-cell}
+use Rattle.cells.proofs.Reps.{same_refl, same_fewer, same_trans, rep_ext, cell_same, length_cell}
 use Rattle.sequences.specs.Making.{Space}
 use Rattle.sequences.specs.Lines.{link_over, Place, Line, Copies, CopiedLine}
-use Rattle.cells.proofs.Places.{drop-first}
+use Rattle.cells.proofs.Places.{drop_first}
 use Rattle.sequences.proofs.Segments.{place_ext, place_new}
 
 pub link_is : (p d : ℕ) {r : ℕ} → (d ≡ 0 → ⊥) → r ≡ (p + d + 1) % 4294967296 → r ≡ link_over p d
@@ -56,19 +56,19 @@ unfolding drop_objs
 copy_start {C} {p = p} h u = record { most = omega arith; fits = omega arith; len = refl; means = λ xs l s rv. record { line = record { place = λ j z. absurd (omega arith) }; rest = rv; same = same_refl C p } }
 
 copy_step : {C₀ C : List ℕ} {v ahead x rest : Val} {n p d q : ℕ} → q < n → Copying C₀ v n p d C ahead q → Headed C ahead x → Tailed C ahead rest → Copying C₀ v n p d (cell_put C (p + q) x (link_over (p + q) d)) rest (q + 1)
-copy_step {C₀} {C} {v} {ahead} {x} {rest} {n} {p} {d} {q} h g hd tl = record { most = omega arith; fits = g.fits; len = length-cell C (p + q) x (link_over (p + q) d) ∙ g.len; means = go }
+copy_step {C₀} {C} {v} {ahead} {x} {rest} {n} {p} {d} {q} h g hd tl = record { most = omega arith; fits = g.fits; len = length_cell C (p + q) x (link_over (p + q) d) ∙ g.len; means = go }
   where
     go : (xs : Objs) → n ≤ length_of xs → Space C₀ p (n + d) → Rep C₀ p v (seq xs) → Copies C₀ p d xs (q + 1) rest (cell_put C (p + q) x (link_over (p + q) d))
     go xs l sp rv =
         let m = g.means xs l sp rv in
         let u : p < 4294967296 = omega (arith, g.fits) in
-        let s = same-fewer {n = p} (omega arith) (cell_same C (p + q) x (link_over (p + q) d)) in
-        let r = rw (drop-first xs q (omega arith)) at m.rest in
+        let s = same_fewer {n = p} (omega arith) (cell_same C (p + q) x (link_over (p + q) d)) in
+        let r = rw (drop_first xs q (omega arith)) at m.rest in
         let t = tl.means p (nth_obj xs q) (drop_objs xs (suc q)) u r in
         record {
           line = line_next (omega (arith, sp.long, g.len)) (hd.means p (nth_obj xs q) (drop_objs xs (suc q)) u r) m.line;
           rest = rw add-one (rep_ext s (omega arith) t);
-          same = same-trans (omega arith) m.same s;
+          same = same_trans (omega arith) m.same s;
         }
 
 pub copy_next : {C₀ C C' : List ℕ} {v ahead x rest : Val} {n p d q : ℕ} → q < n → Copying C₀ v n p d C ahead q → Headed C ahead x → Tailed C ahead rest → C' ≡ cell_put C (p + q) x (link_over (p + q) d) → Copying C₀ v n p d C' rest (q + 1)

@@ -7,10 +7,10 @@ use lib.ListN.{length}
 use Rattle.language.specs.Objects.{seq, Objs, nil, ◌::◌, length_of, ◌+++◌, nth_obj}
 use Rattle.language.specs.declared.Val.{Val}
 use Rattle.cells.specs.Cells.{Rep, Same, sequence_val}
-use Rattle.cells.proofs.Reps.{same_refl, same-trans, rep_ext}
+use Rattle.cells.proofs.Reps.{same_refl, same_trans, rep_ext}
 use Rattle.sequences.specs.Making.{Space, NewSequence, PutBefore, take_objs}
 use Rattle.sequences.specs.Lines.{sequence_from, ColumnsListed}
-use Rattle.sequences.proofs.Parts.{append-nil, append-more, take_all, take_next}
+use Rattle.sequences.proofs.Parts.{append-nil, append_more, take_all, take_next}
 use Rattle.sequences.proofs.Building.{nil_rep}
 
 pub begun_none : (first j n : ℕ) {r : Val} → n ≡ 0 → r ≡ sequence_val 0 0 → r ≡ sequence_from (first + j) n
@@ -36,8 +36,8 @@ list_now {xs = xs} q h l rx sp b g =
     record {
       done = nth_obj xs q :: d;
       rep = st.rep;
-      same = same-trans l g.same st.same;
-      whole = sym (append-more (take_objs q xs) (nth_obj xs q) d) ∙ (ap (λ (t : Objs). t +++ d) (sym (take_next q xs h)) ∙ g.whole);
+      same = same_trans l g.same st.same;
+      whole = sym (append_more (take_objs q xs) (nth_obj xs q) d) ∙ (ap (λ (t : Objs). t +++ d) (sym (take_next q xs h)) ∙ g.whole);
     }
 
 pub record Listing (C₀ : List ℕ) (first n w p : ℕ) (C : List ℕ) (s : Val) (left free : ℕ) : Type 0 where

@@ -10,13 +10,13 @@ pub append-nil : (xs : Objs) → xs +++ nil ≡ xs
 append-nil nil = refl
 append-nil (x :: xs) = ap (λ (r : Objs). x :: r) (append-nil xs)
 
-pub append-more : (xs : Objs) (y : Obj) (ys : Objs) → (xs +++ (y :: nil)) +++ ys ≡ xs +++ (y :: ys)
-append-more nil y ys = refl
-append-more (x :: xs) y ys = ap (λ (r : Objs). x :: r) (append-more xs y ys)
+pub append_more : (xs : Objs) (y : Obj) (ys : Objs) → (xs +++ (y :: nil)) +++ ys ≡ xs +++ (y :: ys)
+append_more nil y ys = refl
+append_more (x :: xs) y ys = ap (λ (r : Objs). x :: r) (append_more xs y ys)
 
-pub length-append_one : (xs : Objs) (y : Obj) → length_of (xs +++ (y :: nil)) ≡ suc (length_of xs)
-length-append_one nil y = refl
-length-append_one (x :: xs) y = ap suc (length-append_one xs y)
+pub length_append_one : (xs : Objs) (y : Obj) → length_of (xs +++ (y :: nil)) ≡ suc (length_of xs)
+length_append_one nil y = refl
+length_append_one (x :: xs) y = ap suc (length_append_one xs y)
 
 pub length-append : (xs ys : Objs) → length_of (xs +++ ys) ≡ length_of xs + length_of ys
 length-append nil ys = omega arith

@@ -8,12 +8,12 @@ use Rattle.language.specs.Objects.{seq, Objs, ◌::◌, length_of, ◌+++◌, nt
 use Rattle.language.specs.declared.Val.{Val}
 use Rattle.cells.specs.Cells.{Rep, sequence_val, cell_put}
 use Rattle.cells.specs.Parts.{drop_objs, Sized, Headed}
-use Rattle.cells.proofs.Reps.{same_refl, same-trans, rep_ext, cell_same, rep_new}
+use Rattle.cells.proofs.Reps.{same_refl, same_trans, rep_ext, cell_same, rep_new}
 use Rattle.sequences.specs.Making.{Space, NewSequence, take_objs, Prepended}
 use Rattle.sequences.specs.Lines.{CopiedLine}
 use Rattle.cells.proofs.Lengths.{rep_length}
-use Rattle.cells.proofs.Places.{drop-first}
-use Rattle.sequences.proofs.Parts.{append-more, length-append, take-length, take_next}
+use Rattle.cells.proofs.Places.{drop_first}
+use Rattle.sequences.proofs.Parts.{append_more, length-append, take-length, take_next}
 use Rattle.sequences.proofs.Segments.{seg_ext, seg_rep, line_segment}
 use Rattle.sequences.proofs.Building.{as_sequence}
 
@@ -36,17 +36,17 @@ prepend_as {C} {C₁} {p} {m} {l} {v} {rest} {behind} {x} q z cp e hd f = record
         let u : p < 4294967296 = omega (arith, sp.far) in
         let k = cp.means xs (omega arith) (record { far = omega (arith, sp.far); long = omega (arith, sp.long) }) rv in
         let y = nth_obj xs q in
-        let rx = hd.means p y (drop_objs xs (suc q)) u (rw (drop-first xs q (omega arith)) at k.rest) in
+        let rx = hd.means p y (drop_objs xs (suc q)) u (rw (drop_first xs q (omega arith)) at k.rest) in
         let i : rest ≡ sequence_val l (length_of ys) = rw f (as_sequence ys u rr) in
         let s = cell_same C₁ (p + q) x l in
         let lt = rep_new {n = p + q} l ys (omega (arith, sp.long)) (rep_ext (same_refl C₁ p) (omega arith) rx) (rep_ext k.same (omega arith) (rw i at rr)) in
         let sg = seg_ext {k' = p + q + 1} s (omega arith) (line_segment {k = p + q} q (omega arith) (omega arith) (omega (arith, sp.far)) k.line) in
-        let w : take_objs q xs +++ (y :: ys) ≡ take_objs (suc q) xs +++ ys = sym (append-more (take_objs q xs) y ys) ∙ ap (λ (t : Objs). t +++ ys) (sym (take_next q xs (omega arith))) in
+        let w : take_objs q xs +++ (y :: ys) ≡ take_objs (suc q) xs +++ ys = sym (append_more (take_objs q xs) y ys) ∙ ap (λ (t : Objs). t +++ ys) (sym (take_next q xs (omega arith))) in
         let a : p + q + 1 ≡ p + suc q = omega arith in
         let n : length_of (take_objs (suc q) xs +++ ys) ≡ suc q + m = omega (arith, length-append (take_objs (suc q) xs) ys, take-length (suc q) xs h, z.means C p ys u rr) in
         record {
           rep = rw n at (rw (w, a) at (seg_rep (y :: ys) sg lt));
-          same = same-trans (omega arith) k.same s;
+          same = same_trans (omega arith) k.same s;
         }
 
 pub prepend_is : {C C₁ C₂ : List ℕ} {n p m l : ℕ} {v rest behind x r : Val} → (n ≡ 0 → ⊥) → Sized rest m → CopiedLine C v (n - 1) p 1 behind C₁ → length C₁ ≡ length C → Headed C₁ behind x → l ≡ rest.word % 4294967296 → C₂ ≡ cell_put C₁ (p + (n - 1)) x l → r ≡ sequence_val (p + 1) (n + m) → Prepended C v n p rest r C₂

@@ -7,19 +7,19 @@ use lib.ListN.{length}
 use Rattle.language.specs.Objects.{Obj, seq, Objs, nil, ◌::◌, length_of, ◌+++◌}
 use Rattle.language.specs.declared.Val.{Val}
 use Rattle.cells.specs.Cells.{Rep, rep_nil, rep_more, Same, val_at, next_at, sequence_val, cell_put}
-use Rattle.cells.proofs.Reps.{same_refl, same-fewer, same_val, same_next, rep_ext, cell_same, cell_val, cell_next}
+use Rattle.cells.proofs.Reps.{same_refl, same_fewer, same_val, same_next, rep_ext, cell_same, cell_val, cell_next}
 use Rattle.sequences.specs.Making.{take_objs}
 use Rattle.sequences.specs.Lines.{link_over, Place, Line}
-use Rattle.sequences.proofs.Parts.{append-more, take_next}
+use Rattle.sequences.proofs.Parts.{append_more, take_next}
 
 -- ---- one place
 -- a place stays where later cells change
 pub place_ext : {C C' : List ℕ} {m k k' p next : ℕ} {x : Obj} → Same C C' m → k ≤ m → p < m → k ≤ k' → Place C k p x next → Place C' k' p x next
-place_ext {p = p} s h l i g = record { holds = rw (same_val s p l) (rep_ext (same-fewer h s) i g.holds); leads = same_next s p l ∙ g.leads }
+place_ext {p = p} s h l i g = record { holds = rw (same_val s p l) (rep_ext (same_fewer h s) i g.holds); leads = same_next s p l ∙ g.leads }
 
 -- a new cell is a place
 pub place_new : {C : List ℕ} {k p : ℕ} {v : Val} {x : Obj} (next : ℕ) → k ≤ p → p * 4 + 4 ≤ length C → Rep C k v x → Place (cell_put C p v next) k p x next
-place_new {C} {k} {p} {v} next h l r = record { holds = rw (cell_val C p v next l) (rep_ext (same-fewer h (cell_same C p v next)) (omega arith) r); leads = cell_next C p v next l }
+place_new {C} {k} {p} {v} next h l r = record { holds = rw (cell_val C p v next l) (rep_ext (same_fewer h (cell_same C p v next)) (omega arith) r); leads = cell_next C p v next l }
 
 -- ---- segments
 -- from the link a on the places of xs, the last one leading to l
@@ -58,7 +58,7 @@ pub begun_next : {C C' : List ℕ} {k k' a l next p : ℕ} {x : Obj} {all todo :
 begun_next {x = x} {todo = todo} s h e i g b = record {
   made = b.made +++ (x :: nil);
   segment = seg_end e i g (seg_ext s h b.segment);
-  whole = append-more b.made x todo ∙ b.whole;
+  whole = append_more b.made x todo ∙ b.whole;
 }
 
 pub begun_end : {C : List ℕ} {k a : ℕ} {all : Objs} → Begun C k a all nil 0 → Rep C k (sequence_val a (length_of all)) (seq all)

@@ -9,18 +9,18 @@ use Rattle.language.specs.Objects.{Obj, seq, Objs, nil, ◌::◌, length_of}
 use Rattle.language.specs.declared.Val.{Val}
 use Rattle.cells.specs.Cells.{Rep, Same, sequence_val, cell_put}
 use Rattle.cells.specs.Parts.{Headed, Tailed, Paired}
-use Rattle.cells.proofs.Reps.{same_refl, same-fewer, same-trans, rep_ext, cell_same}
+use Rattle.cells.proofs.Reps.{same_refl, same_fewer, same_trans, rep_ext, cell_same}
 use Rattle.sequences.specs.Making.{Space, NewSequence, side, sides, Joined, Shared}
 use Rattle.sequences.specs.Lines.{Place, Coupled}
 use Rattle.cells.proofs.Lengths.{rep_length}
 use Rattle.sequences.proofs.Segments.{place_ext, place_new, Begun, begin, begun_next, begun_end}
 
 -- ---- one pair
-pub joined-first : {C C' : List ℕ} {p : ℕ} {a b r : Val} {first : Bool} → first ≡ true → Paired C p a b r C' → Joined C p a b first r C'
-joined-first e g = record { means = λ x y s ra rb. rw e (g.means x y s.far (omega (arith, s.long)) ra rb) }
+pub joined_first : {C C' : List ℕ} {p : ℕ} {a b r : Val} {first : Bool} → first ≡ true → Paired C p a b r C' → Joined C p a b first r C'
+joined_first e g = record { means = λ x y s ra rb. rw e (g.means x y s.far (omega (arith, s.long)) ra rb) }
 
-pub joined-second : {C C' : List ℕ} {p : ℕ} {a b r : Val} {first : Bool} → first ≡ false → Paired C p b a r C' → Joined C p a b first r C'
-joined-second e g = record { means = λ x y s ra rb. rw e (g.means y x s.far (omega (arith, s.long)) rb ra) }
+pub joined_second : {C C' : List ℕ} {p : ℕ} {a b r : Val} {first : Bool} → first ≡ false → Paired C p b a r C' → Joined C p a b first r C'
+joined_second e g = record { means = λ x y s ra rb. rw e (g.means y x s.far (omega (arith, s.long)) rb ra) }
 
 pub couple_far : {C C' : List ℕ} {p next : ℕ} {a b : Val} {first : Bool} → 4294967293 < p → Coupled C p a b first next C'
 couple_far h = record { means = λ x y s ra rb. absurd (omega (arith, s.far)) }
@@ -31,13 +31,13 @@ couple_is {C} {C₁} {C₂} {p} {next} {a} {b} {r} {first} j e f = record { mean
     go : (x y : Obj) → Space C p 3 → Rep C p a x → Rep C p b y → Place C₂ (p + 2) (p + 2) (side first x y) next × Same C C₂ p
     go x y s ra rb =
         let m = j.means x y (record { far = omega (arith, s.far); long = omega (arith, s.long) }) ra rb in
-        rw f (place_new next (omega arith) (omega (arith, s.long)) m.0, same-trans (omega arith) m.1 (cell_same C₁ (p + 2) r next))
+        rw f (place_new next (omega arith) (omega (arith, s.long)) m.0, same_trans (omega arith) m.1 (cell_same C₁ (p + 2) r next))
 
 -- ---- all pairs
-length-sides : (b : Bool) (x : Obj) (ys : Objs) → length_of (sides b x ys) ≡ length_of ys
+length_sides : (b : Bool) (x : Obj) (ys : Objs) → length_of (sides b x ys) ≡ length_of ys
 unfolding sides
-length-sides b x nil = refl
-length-sides b x (y :: ys) = ap suc (length-sides b x ys)
+length_sides b x nil = refl
+length_sides b x (y :: ys) = ap suc (length_sides b x ys)
 
 -- the places of `todo` are ahead, the pairs of those before them are made
 pub record ShareNow (C₀ : List ℕ) (first : Bool) (p : ℕ) (x : Obj) (ys : Objs) (C : List ℕ) (ahead : Val) (left free next : ℕ) : Type 0 where
@@ -92,7 +92,7 @@ share_one nil e h sp ra hd tl cp rt s g = absurd (omega arith)
 share_one {C = C} {p = p} {free = free} {x = x} (y :: todo) e h sp ra hd tl cp rt s g =
     let u : p < 4294967296 = omega (arith, sp.far) in
     let m = share_pair h sp s ra (hd.means p y todo u rt) cp g in
-    record { todo = todo; long = omega arith; still = rep_ext (same-fewer h m.1) (omega arith) (tl.means p y todo u rt); same = same-trans h s m.1; begun = m.0 }
+    record { todo = todo; long = omega arith; still = rep_ext (same_fewer h m.1) (omega arith) (tl.means p y todo u rt); same = same_trans h s m.1; begun = m.0 }
 
 -- the last pair
 share_last : {C₀ C C' : List ℕ} {a ahead b : Val} {first : Bool} {p free : ℕ} {x : Obj} {all : Objs} (todo : Objs) → length_of todo ≡ 1 → p ≤ free → Space C free 3 → Rep C₀ p a x → Headed C ahead b → Coupled C free a b first 0 C' → Rep C p ahead (seq todo) → Same C₀ C p → Begun C free (p + 3) all (sides first x todo) (free + 3) → Rep C' (free + 3) (sequence_val (p + 3) (length_of all)) (seq all) × Same C₀ C' p
@@ -100,7 +100,7 @@ unfolding sides
 share_last nil e h sp ra hd cp rt s g = absurd (omega arith)
 share_last {p = p} {x = x} (y :: nil) e h sp ra hd cp rt s g =
     let m = share_pair h sp s ra (hd.means p y nil (omega (arith, sp.far)) rt) cp g in
-    (begun_end m.0, same-trans h s m.1)
+    (begun_end m.0, same_trans h s m.1)
 share_last (y :: z :: todo) e h sp ra hd cp rt s g = absurd (omega arith)
 
 share_step : {C₀ C C' : List ℕ} {a v ahead b rest : Val} {first : Bool} {n p left free : ℕ} (q : ℕ) → 0 < q → left ≡ suc q → Sharing C₀ a v first n p C ahead left free → Headed C ahead b → Tailed C ahead rest → Coupled C free a b first (free + 6) C' → length C' ≡ length C → Sharing C₀ a v first n p C' rest q (free + 3)
@@ -123,6 +123,6 @@ share_end {C₀} {C} {C'} {a} {v} {ahead} {b} {r} {first} {n} {p} {left} {free} 
         let m = g.means x ys e sp ra rv in
         let one : length_of m.todo ≡ 1 = omega (arith, m.long, g.some) in
         let k = share_last m.todo one (omega (arith, g.sum, g.most)) (record { far = omega (arith, g.sum, g.fits, g.some); long = omega (arith, g.sum, g.len, sp.long, g.some) }) ra hd cp m.still m.same m.begun in
-        let i : length_of (sides first x ys) ≡ n = length-sides first x ys ∙ e in
+        let i : length_of (sides first x ys) ≡ n = length_sides first x ys ∙ e in
         let j : free + 3 ≡ p + 3 * n = omega (arith, g.sum, g.some) in
         record { rep = rw f (rw (i, j) at k.0); same = k.1 }

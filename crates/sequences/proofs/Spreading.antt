@@ -10,7 +10,7 @@ use Rattle.language.specs.Objects.{Obj, seq, Objs, nil, ◌::◌, length_of}
 use Rattle.language.specs.declared.Val.{Val}
 use Rattle.cells.specs.Cells.{Rep, rep_nil, Same, sequence_val}
 use Rattle.cells.specs.Parts.{Headed, Tailed}
-use Rattle.cells.proofs.Reps.{same_refl, same-fewer, same-trans, rep_ext}
+use Rattle.cells.proofs.Reps.{same_refl, same_fewer, same_trans, rep_ext}
 use Rattle.language.specs.Meanings.{is_row, are_rows, entry_at, column_at}
 use Rattle.sequences.specs.Making.{Space}
 use Rattle.sequences.specs.Lines.{link_over, Place, CopiedLine, sequence_from, Spreads, RowsSpread}
@@ -87,8 +87,8 @@ spread_now {C₀} {C} {C'} {w = w} {p = p} {free = free} {f = f} rs i (x :: todo
       todo = todo;
       long = omega arith;
       rows = and_second (is_row w x) (are_rows w todo) a;
-      still = rep_ext (same-fewer l g.same) (omega arith) (tl.means p x todo u rt);
-      same = same-trans l s g.same;
+      still = rep_ext (same_fewer l g.same) (omega arith) (tl.means p x todo u rt);
+      same = same_trans l s g.same;
       low = omega arith;
       sum = omega (arith, two);
       begun = λ j h.
@@ -110,10 +110,10 @@ spread_next {left = left} h g hd tl cp e y =
     rw z (spread_step (left - 2) (omega arith) g hd tl cp e y)
 
 -- ---- the last row
-length-column : (j : ℕ) (rs : Objs) → length_of (column_at j rs) ≡ length_of rs
+length_column : (j : ℕ) (rs : Objs) → length_of (column_at j rs) ≡ length_of rs
 unfolding column_at
-length-column j nil = refl
-length-column j (r :: rs) = ap suc (length-column j rs)
+length_column j nil = refl
+length_column j (r :: rs) = ap suc (length_column j rs)
 
 from_is : (p n : ℕ) → 0 < n → p + 1 < 4294967296 → sequence_from p n ≡ sequence_val (p + 1) n
 unfolding sequence_from
@@ -131,10 +131,10 @@ spread_last {C = C} {C' = C'} {n = n} {w = w} {p = p} {free = free} {f = f} rs (
     record {
       end = omega arith;
       column = λ j h.
-          let d = length-column j rs ∙ m in
+          let d = length_column j rs ∙ m in
           let r : Rep C' (free + w) (sequence_val (p + j + 1) (length_of (column_at j rs))) (seq (column_at j rs)) = begun_end (laid_next j h g (bg j h)) in
           rw (from_is (p + j) n i (omega (arith, sp.far)), q) (rw d at r);
-      same = same-trans l s g.same;
+      same = same_trans l s g.same;
     }
 
 pub spread_end : {C₀ C C' : List ℕ} {v ahead row o : Val} {n w p left free f : ℕ} → (n ≡ 0 → ⊥) → left ≤ 1 → Spreading C₀ v n w p C ahead left free → Headed C ahead row → CopiedLine C row w free 0 o C' → f ≡ (free + w) % 4294967296 → RowsSpread C₀ v n w p f C'

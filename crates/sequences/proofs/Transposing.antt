@@ -11,7 +11,7 @@ use Rattle.language.specs.Objects.{Obj, int, symbol, seq, Objs, nil, ◌::◌, l
 use Rattle.language.specs.declared.Val.{Val}
 use Rattle.cells.specs.Cells.{Rep, rep_pos, rep_neg, rep_symbol, rep_nil, rep_more, val_at, next_at, sequence_val}
 use Rattle.cells.specs.Parts.{first_of, Sized}
-use Rattle.cells.proofs.Reps.{same_refl, same-trans}
+use Rattle.cells.proofs.Reps.{same_refl, same_trans}
 use Rattle.cells.proofs.Places.{From, from_head, from_next}
 use Rattle.language.specs.Meanings.{is_row, are_rows, column_at, columns_at}
 use Rattle.sequences.specs.Making.{Space, NewSequence, Rows, Columns}
@@ -65,8 +65,8 @@ unfolding are_rows
 rows_no w xs nil u h e d f g r q = absurd (omega arith)
 rows_no w xs (y :: ys) u h e d f g r q = sym (q ∙ ap (λ (t : Bool). t && are_rows w ys) (no_row w f g (row_here u d r)))
 
-pub rows-atom : {C : List ℕ} {v row : Val} {p₀ n w p left : ℕ} {b : Bool} → p₀ ≡ first_of v → Checking C p₀ n w p left → 0 < left → row ≡ val_at C p → b ≡ eqb row.tag 3 → not b ≡ true → Rows C v n w false
-rows-atom {w = w} {b = b} i g h d f z = record { means = λ k xs u e r. let m = g.means k xs u e (starts i r) in rows_no w xs m.ahead u h m.long d f (not-true b z) m.still m.whole }
+pub rows_atom : {C : List ℕ} {v row : Val} {p₀ n w p left : ℕ} {b : Bool} → p₀ ≡ first_of v → Checking C p₀ n w p left → 0 < left → row ≡ val_at C p → b ≡ eqb row.tag 3 → not b ≡ true → Rows C v n w false
+rows_atom {w = w} {b = b} i g h d f z = record { means = λ k xs u e r. let m = g.means k xs u e (starts i r) in rows_no w xs m.ahead u h m.long d f (not-true b z) m.still m.whole }
 
 rows_other : {C : List ℕ} {k p left n : ℕ} (w : ℕ) {row : Val} {b : Bool} (xs ahead : Objs) → k < 4294967296 → 0 < left → length_of ahead ≡ left → row ≡ val_at C p → b ≡ eqb row.tag 3 → b ≡ true → Sized row n → (n ≡ w → ⊥) → From C k p ahead → are_rows w xs ≡ are_rows w ahead → false ≡ are_rows w xs
 unfolding are_rows
@@ -85,13 +85,13 @@ rows_more {n = n} w xs (y :: ys) u h e d f g s z t r q =
 pub rows_next : {C : List ℕ} {row : Val} {p₀ n w p q left i : ℕ} {b : Bool} → Checking C p₀ n w p left → 0 < left → row ≡ val_at C p → b ≡ eqb row.tag 3 → not b ≡ false → Sized row i → i ≡ w → q ≡ next_at C p - 1 → q < 4294967296 → Checking C p₀ n w q (left - 1)
 rows_next {w = w} {b = b} g h d f z s o t l = record { fits = l; means = λ k xs u e r. let m = g.means k xs u e r in rows_more w xs m.ahead u h m.long d f (not-false b z) s o t m.still m.whole }
 
-rows-done : (w left : ℕ) (xs ahead : Objs) → left ≤ 0 → length_of ahead ≡ left → are_rows w xs ≡ are_rows w ahead → true ≡ are_rows w xs
+rows_done : (w left : ℕ) (xs ahead : Objs) → left ≤ 0 → length_of ahead ≡ left → are_rows w xs ≡ are_rows w ahead → true ≡ are_rows w xs
 unfolding are_rows
-rows-done w left xs nil h e q = sym q
-rows-done w left xs (y :: ys) h e q = absurd (omega arith)
+rows_done w left xs nil h e q = sym q
+rows_done w left xs (y :: ys) h e q = absurd (omega arith)
 
 pub rows_end : {C : List ℕ} {v : Val} {p₀ n w p left : ℕ} → p₀ ≡ first_of v → Checking C p₀ n w p left → left ≤ 0 → Rows C v n w true
-rows_end {w = w} {left = left} i g h = record { means = λ k xs u e r. let m = g.means k xs u e (starts i r) in rows-done w left xs m.ahead h m.long m.whole }
+rows_end {w = w} {left = left} i g h = record { means = λ k xs u e r. let m = g.means k xs u e (starts i r) in rows_done w left xs m.ahead h m.long m.whole }
 
 -- ---- a row's places
 pub record RowAt (w : ℕ) (x : Obj) : Type 0 where
@@ -134,4 +134,4 @@ columns_is {C} {C₁} {C₂} {v} {r} {n} {w} {p} {free} s e t = record { means =
         let column : (j : ℕ) → j < w → Rep C₁ free (sequence_from (p + j) n) (nth_obj (columns_at 0 w rs) j) = λ j h. rw (column_at_lem w j rs h) (m.column j h) in
         let st = t.means (columns_at 0 w rs) (length_columns 0 w rs) (record { far = omega (arith, sp.far); long = omega (arith, sp.long) }) column in
         let o : free + w ≡ p + (w + w * n) = omega arith in
-        record { rep = rw o at st.rep; same = same-trans (omega arith) m.same st.same }
+        record { rep = rw o at st.rep; same = same_trans (omega arith) m.same st.same }

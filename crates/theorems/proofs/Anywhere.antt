@@ -14,15 +14,15 @@ use Rattle.language.specs.Writing.{marks_of_program}
 use Rattle.groundwork.specs.Options.{on_some, when}
 use Rattle.language.specs.Laws.{join_in, leftmost, New, stays, puts, form_of, closed, in_chain, whole, Law, at_root}
 use Rattle.language.specs.Uses.{place, within, around, around_all, among, use_at, use_among, with_body, use_in, apply_law}
-use Rattle.theorems.proofs.Inversions.{some_inj, none-some, chain-made, something, when_true}
+use Rattle.theorems.proofs.Inversions.{some_inj, none_some, chain_made, something, when_true}
 
 -- ---- at the law's own form
 
 module _ (F : Form → Form → Type 0) (C : Forms → Forms → Type 0) where
   -- the leftmost fitting parts
-  pub leftmost-fits : (fit : Forms → Option Forms) → ((fs gs : Forms) → fit fs ≡ some gs → C fs gs) → ((f : Form) (fs gs : Forms) → C fs gs → C (f & fs) (f & gs)) → (fs gs : Forms) → leftmost fit fs ≡ some gs → C fs gs
-  leftmost-fits fit fits behind stop gs u = none-some u
-  leftmost-fits fit fits behind (f & fs) gs u = go (fit (f & fs)) refl u (λ hs v. leftmost-fits fit fits behind fs hs v)
+  pub leftmost_fits : (fit : Forms → Option Forms) → ((fs gs : Forms) → fit fs ≡ some gs → C fs gs) → ((f : Form) (fs gs : Forms) → C fs gs → C (f & fs) (f & gs)) → (fs gs : Forms) → leftmost fit fs ≡ some gs → C fs gs
+  leftmost_fits fit fits behind stop gs u = none_some u
+  leftmost_fits fit fits behind (f & fs) gs u = go (fit (f & fs)) refl u (λ hs v. leftmost_fits fit fits behind fs hs v)
     where
       go : (o : Option Forms) → fit (f & fs) ≡ o → elim o as (λ (o : Option Forms). Option Forms) [ some gs ↦ some gs | none ↦ on_some (leftmost fit fs) (λ gs. some (f & gs)) ] ≡ some gs → ((hs : Forms) → leftmost fit fs ≡ some hs → C fs hs) → C (f & fs) gs
       go (some hs) e v k = fits (f & fs) gs (subst (λ (o : Option Forms). fit (f & fs) ≡ o) v e)
@@ -33,9 +33,9 @@ module _ (F : Form → Form → Type 0) (C : Forms → Forms → Type 0) where
   -- in a chain, which is then closed
   pub chain_law : (fit : Forms → Option Forms) → ((fs gs : Forms) → fit fs ≡ some gs → C fs gs) → ((f : Form) (fs gs : Forms) → C fs gs → C (f & fs) (f & gs)) → ((fs gs : Forms) → C fs gs → F (chain fs) (form_of (closed gs))) → (f : Form) (n : New) → in_chain fit f ≡ some n → F f (form_of n)
   chain_law fit fits behind closes f n u =
-      let M = chain-made f (λ fs. on_some (leftmost fit fs) (λ gs. some (closed gs))) n u in
+      let M = chain_made f (λ fs. on_some (leftmost fit fs) (λ gs. some (closed gs))) n u in
       let s = something (leftmost fit M.of) (λ gs. some (closed gs)) n M.gives in
-      let r : F (chain M.of) (form_of (closed s.of)) = closes M.of s.of (leftmost-fits fit fits behind M.of s.of s.is) in
+      let r : F (chain M.of) (form_of (closed s.of)) = closes M.of s.of (leftmost_fits fit fits behind M.of s.of s.is) in
       subst (λ (a : Form). F a (form_of n)) (sym M.is) (subst (λ (m : New). F (chain M.of) (form_of m)) (some_inj s.gives) r)
 
   -- of a construction or a condition
@@ -50,7 +50,7 @@ module _ (F : Form → Form → Type 0) (C : Forms → Forms → Type 0) where
 pub record Passes (F : Form → Form → Type 0) (C S : Forms → Forms → Type 0) : Type 0 where
   pub part : {f g : Form} (fs : Forms) → F f g → C (f & fs) (g & fs)
   pub joined : {f g : Form} (fs : Forms) → F f g → C (f & fs) (join_in g fs)
-  pub behind-part : (f : Form) {fs gs : Forms} → C fs gs → C (f & fs) (f & gs)
+  pub behind_part : (f : Form) {fs gs : Forms} → C fs gs → C (f & fs) (f & gs)
   pub in_chain_lem : {fs gs : Forms} → C fs gs → F (chain fs) (chain gs)
   pub item : {f g : Form} (fs : Forms) → F f g → S (f & fs) (g & fs)
   pub behind_item : (f : Form) {fs gs : Forms} → S fs gs → S (f & fs) (f & gs)
@@ -108,14 +108,14 @@ module _ (F : Form → Form → Type 0) (C S : Forms → Forms → Type 0) (R : 
       subst (Among b (f & fs)) (some_inj s.gives) (go b s.of (k s.of s.is))
     where
       go : (b : Bool) (hs : Forms) → Among b fs hs → Among b (f & fs) (f & hs)
-      go true hs r = R.behind-part f r
+      go true hs r = R.behind_part f r
       go false hs r = R.behind_item f r
 
   mutual
     pub anywhere : (f : Form) (l : Law) (i : ℕ) (n : New) → use_at f l i ≡ some n → F f (form_of n)
-    anywhere (word w) l i n u = at_place i (at_root l (word w)) (λ j. none) (λ v. root l (word w) n v) (λ j v. none-some v) u
-    anywhere (name w) l i n u = at_place i (at_root l (name w)) (λ j. none) (λ v. root l (name w) n v) (λ j v. none-some v) u
-    anywhere (constant x) l i n u = at_place i (at_root l (constant x)) (λ j. none) (λ v. root l (constant x) n v) (λ j v. none-some v) u
+    anywhere (word w) l i n u = at_place i (at_root l (word w)) (λ j. none) (λ v. root l (word w) n v) (λ j v. none_some v) u
+    anywhere (name w) l i n u = at_place i (at_root l (name w)) (λ j. none) (λ v. root l (name w) n v) (λ j v. none_some v) u
+    anywhere (constant x) l i n u = at_place i (at_root l (constant x)) (λ j. none) (λ v. root l (constant x) n v) (λ j v. none_some v) u
     anywhere (chain fs) l i n u =
         at_place i (at_root l (chain fs)) (λ j. around_all chain (use_among true fs l j)) (λ v. root l (chain fs) n v)
         (λ j v. around_all_lem C chain fs (use_among true fs l j) n (λ gs r. R.in_chain_lem r) (λ gs w. anywhere_among true fs l j gs w) v) u
@@ -150,7 +150,7 @@ module _ (F : Form → Form → Type 0) (C S : Forms → Forms → Type 0) (R : 
         (λ w. around_one (λ g. while p g) f (use_at f l (j - forms_in p)) n (λ g r. R.in_while_body p r) (λ m x. anywhere f l (j - forms_in p) m x) w) v) u
 
     anywhere_among : (b : Bool) (fs : Forms) (l : Law) (j : ℕ) (gs : Forms) → use_among b fs l j ≡ some gs → Among b fs gs
-    anywhere_among b stop l j gs u = none-some u
+    anywhere_among b stop l j gs u = none_some u
     anywhere_among b (f & fs) l j gs u =
         let first : ℕ → Option Forms = λ j. on_some (use_at f l j) (λ n. some (among b n fs)) in
         let rest : ℕ → Option Forms = λ j. on_some (use_among b fs l j) (λ hs. some (f & hs)) in
@@ -171,7 +171,7 @@ pub record Used (F : Form → Form → Type 0) (P Q : Prog) : Type 0 where
 
 module _ (F : Form → Form → Type 0) (use-at : (f : Form) (l : Law) (i : ℕ) (n : New) → use_at f l i ≡ some n → F f (form_of n)) where
   in_program : (P : Prog) (l : Law) (i : ℕ) (Q : Prog) → use_in P l i ≡ some Q → OneBody F P Q
-  in_program [] l i Q u = none-some u
+  in_program [] l i Q u = none_some u
   in_program (d ∷ ds) l i Q u =
       let first : ℕ → Option Prog = λ i. on_some (use_at d.body l i) (λ n. some (with_body d (form_of n) ∷ ds)) in
       let rest : ℕ → Option Prog = λ i. on_some (use_in ds l i) (λ es. some (d ∷ es)) in

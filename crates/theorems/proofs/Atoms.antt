@@ -12,8 +12,8 @@ use Rattle.language.specs.Tokens.{is_blank, is_digit, is_word_byte, span, size_a
 use Rattle.language.specs.Judging.{all, is_symbol_byte, is, value_of, judge_word, judge_integer, judge_negative, judge_atom}
 use Rattle.language.specs.Writing.{decimal, write_integer}
 use Rattle.language.specs.Accepted.{IsInteger, IsSymbol}
-use Rattle.theorems.proofs.Texts.{all_cons, all_weaken, digit_range, upper_range, not-blank, upper_no_digit, upper_letter, upper_symbol, digit_word, symbol-word, size_word, size_dash}
-use Rattle.theorems.proofs.Decimals.{decimal-digits, decimal-value, decimal-long, decimal-zero, decimal-plain}
+use Rattle.theorems.proofs.Texts.{all_cons, all_weaken, digit_range, upper_range, not_blank, upper_no_digit, upper_letter, upper_symbol, digit_word, symbol_word, size_word, size_dash}
+use Rattle.theorems.proofs.Decimals.{decimal_digits, decimal_value, decimal_long, decimal-zero, decimal_plain}
 
 digit_atom : (w : List ℕ) → all is_digit w ≡ true → 0 < length w → judge_atom w ≡ judge_integer w
 unfolding judge_atom
@@ -22,7 +22,7 @@ digit_atom (b ∷ a) h n = rw ((and-eq-true_iff (is_digit b) (all is_digit a)).0
 
 positive_judged : (n : ℕ) → IsInteger (pos n) → judge_integer (decimal n) ≡ is (int (pos n))
 unfolding judge_integer
-positive_judged n h = rw (decimal-digits n, decimal-plain n, decimal-value n, h)
+positive_judged n h = rw (decimal_digits n, decimal_plain n, decimal_value n, h)
 
 negative_judged : (n : ℕ) (w : List ℕ) → all is_digit w ≡ true → 0 < length w → (get_or w 0 0 ≡ 48 → ⊥) → value_of w ≡ suc n → IsInteger (negsuc n) →
     judge_negative w ≡ is (int (negsuc n))
@@ -32,9 +32,9 @@ negative_judged n (b ∷ a) d l z v h = rw (d, ne_eqb b 48 z, v, h)
 
 pub integer_judged : (z : ℤ) → IsInteger z → judge_atom (write_integer z) ≡ is (int z)
 unfolding write_integer judge_atom
-integer_judged (pos n) h = digit_atom (decimal n) (decimal-digits n) (decimal-long n) ∙ positive_judged n h
+integer_judged (pos n) h = digit_atom (decimal n) (decimal_digits n) (decimal_long n) ∙ positive_judged n h
 integer_judged (negsuc n) h =
-    negative_judged n (decimal (suc n)) (decimal-digits (suc n)) (decimal-long (suc n)) (λ e. omega (arith, (decimal-zero (suc n) e).0)) (decimal-value (suc n)) h
+    negative_judged n (decimal (suc n)) (decimal_digits (suc n)) (decimal_long (suc n)) (λ e. omega (arith, (decimal-zero (suc n) e).0)) (decimal_value (suc n)) h
 
 pub word_judged : (test : ℕ → Bool) (w : List ℕ) → all test w ≡ true → length w ≤ 12 → judge_word test w ≡ is w
 unfolding judge_word
@@ -54,24 +54,24 @@ begins_digits : (w : List ℕ) → all is_digit w ≡ true → 0 < length w → 
 begins_digits [] h n = absurd (omega arith)
 begins_digits (b ∷ a) h n =
     let r = digit_range b ((and-eq-true_iff (is_digit b) (all is_digit a)).0 h).0 in
-    (b, a, refl, not-blank b r.0, omega arith, omega arith)
+    (b, a, refl, not_blank b r.0, omega arith, omega arith)
 
 pub integer_begins : (z : ℤ) → BeginsAtom (write_integer z)
 unfolding write_integer
-integer_begins (pos n) = begins_digits (decimal n) (decimal-digits n) (decimal-long n)
+integer_begins (pos n) = begins_digits (decimal n) (decimal_digits n) (decimal_long n)
 integer_begins (negsuc n) = (45, decimal (suc n), refl, refl, omega arith, omega arith)
 
 pub symbol_begins : (w : List ℕ) → IsSymbol w → BeginsAtom w
 symbol_begins [] h = absurd h
-symbol_begins (b ∷ a) h = let r = upper_range b h.0 in (b, a, refl, not-blank b (omega (arith, r.0)), omega arith, omega arith)
+symbol_begins (b ∷ a) h = let r = upper_range b h.0 in (b, a, refl, not_blank b (omega (arith, r.0)), omega arith, omega arith)
 
 module _ (s : List ℕ) (p : ℕ) (l : List ℕ) (stops : span is_word_byte l ≡ 0) where
   pub integer_size : (z : ℤ) → drop p s ≡ write_integer z ++ l → size_at s p ≡ length (write_integer z)
   unfolding write_integer
-  integer_size (pos n) e = size_word s p l stops (decimal n) e (all_weaken is_digit is_word_byte digit_word (decimal n) (decimal-digits n)) (decimal-long n)
-  integer_size (negsuc n) e = size_dash s p l stops (decimal (suc n)) e (decimal-digits (suc n)) (decimal-long (suc n))
+  integer_size (pos n) e = size_word s p l stops (decimal n) e (all_weaken is_digit is_word_byte digit_word (decimal n) (decimal_digits n)) (decimal_long n)
+  integer_size (negsuc n) e = size_dash s p l stops (decimal (suc n)) e (decimal_digits (suc n)) (decimal_long (suc n))
 
-  pub symbol-size : (w : List ℕ) → IsSymbol w → drop p s ≡ w ++ l → size_at s p ≡ length w
-  symbol-size [] h e = absurd h
-  symbol-size (b ∷ a) h e =
-      size_word s p l stops (b ∷ a) e (all_weaken is_symbol_byte is_word_byte symbol-word (b ∷ a) (all_cons is_symbol_byte b a (upper_symbol b h.0) h.1)) (omega arith)
+  pub symbol_size : (w : List ℕ) → IsSymbol w → drop p s ≡ w ++ l → size_at s p ≡ length w
+  symbol_size [] h e = absurd h
+  symbol_size (b ∷ a) h e =
+      size_word s p l stops (b ∷ a) e (all_weaken is_symbol_byte is_word_byte symbol_word (b ∷ a) (all_cons is_symbol_byte b a (upper_symbol b h.0) h.1)) (omega arith)

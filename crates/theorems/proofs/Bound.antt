@@ -7,7 +7,7 @@ use mathlib.Core.Option.{Option, some, none}
 use native.Mathlib.Omega.{arith}
 use lib.Dec.{leb}
 use Rattle.language.specs.declared.Meter.{Meter}
-use Rattle.language.specs.Objects.{Obj, int, symbol, seq, Objs, nil, ◌::◌, Truth, truth_of, isT, isF, neither}
+use Rattle.language.specs.Objects.{Obj, int, symbol, seq, Objs, nil, ◌::◌, Truth, truth_of, is_T, is_F, neither}
 use Rattle.language.specs.Forms.{Form, word, name, chain, construct, constant, insert, apply_all, bu, condition, while, Forms, stop, ◌&◌, Prog}
 use Rattle.language.specs.Numbers.{Edition}
 use Rattle.language.specs.Meanings.{pair}
@@ -24,11 +24,11 @@ bind_less k k' (ex_object {v = v} {m' = m₁} E) f = f v m₁ (omega (arith, E.s
 bind_less k k' (ex_bottom E) f = refl
 bind_less k k' ex_out f = refl
 
-bind-fewer : {e : Edition} {P : Prog} {B : Type 0} {g : Form} {x : Obj} {m : Meter} {o : Out Obj} (k k' : Obj → Meter → Out B)
+bind_fewer : {e : Edition} {P : Prog} {B : Type 0} {g : Form} {x : Obj} {m : Meter} {o : Out Obj} (k k' : Obj → Meter → Out B)
     → Explains e P 0 0 (just g x) m o → ((v : Obj) (m₁ : Meter) → m₁.steps < m.steps → k v m₁ ≡ k' v m₁) → bind o k ≡ bind o k'
-bind-fewer {e} {P} k k' (ex_object {v = v} {m' = m₁} E) f = f v m₁ (omega (arith, E.steps, just_pos e P E.ends))
-bind-fewer k k' (ex_bottom E) f = refl
-bind-fewer k k' ex_out f = refl
+bind_fewer {e} {P} k k' (ex_object {v = v} {m' = m₁} E) f = f v m₁ (omega (arith, E.steps, just_pos e P E.ends))
+bind_fewer k k' (ex_bottom E) f = refl
+bind_fewer k k' ex_out f = refl
 
 cells_less : {A : Type 0} (n : ℕ) (m : Meter) (k k' : Meter → Out A) → ((m₁ : Meter) → m₁.steps ≤ m.steps → k m₁ ≡ k' m₁) → ask_cells n m k ≡ ask_cells n m k'
 cells_less {A} n m k k' f = go (leb n m.cells)
@@ -41,12 +41,12 @@ cells_less {A} n m k k' f = go (leb n m.cells)
     go true = f m₁ (omega arith)
     go false = refl
 
-decide-same : (b : Obj) (m : Meter) (onT onF onT' onF' : Meter → Out Obj) → onT m ≡ onT' m → onF m ≡ onF' m → decide b m onT onF ≡ decide b m onT' onF'
-decide-same b m onT onF onT' onF' h k = go (truth_of b) refl
+decide_same : (b : Obj) (m : Meter) (on_T on_F onT' onF' : Meter → Out Obj) → on_T m ≡ onT' m → on_F m ≡ onF' m → decide b m on_T on_F ≡ decide b m onT' onF'
+decide_same b m on_T on_F onT' onF' h k = go (truth_of b) refl
   where
-    go : (t : Truth) → truth_of b ≡ t → decide b m onT onF ≡ decide b m onT' onF'
-    go isT t = rw (t, decide) h
-    go isF t = rw (t, decide) k
+    go : (t : Truth) → truth_of b ≡ t → decide b m on_T on_F ≡ decide b m onT' onF'
+    go is_T t = rw (t, decide) h
+    go is_F t = rw (t, decide) k
     go neither t = rw (t, decide) refl
 
 -- what while does where its test came to T, and what it does with what the test came to
@@ -93,55 +93,55 @@ module _ (e : Edition) (P : Prog) (u v : Apply) (g : Good e P u) (N : ℕ)
   loop_same zero (suc j) p f x m h k l = sym (ap (λ (o : Out Obj). bind o (tested v j p f x)) (sym (s p x m h) ∙ z p x m (omega arith)))
   loop_same (suc i) zero p f x m h k l = ap (λ (o : Out Obj). bind o (tested u i p f x)) (z p x m (omega arith))
   loop_same (suc i) (suc j) p f x m h k l =
-      bind-fewer (tested u i p f x) (tested v j p f x) (g p x m)
-      (λ b m₁ t. decide-same b m₁ (again u i p f x) (λ m₂. value x m₂) (again v j p f x) (λ m₂. value x m₂)
+      bind_fewer (tested u i p f x) (tested v j p f x) (g p x m)
+      (λ b m₁ t. decide_same b m₁ (again u i p f x) (λ m₂. value x m₂) (again v j p f x) (λ m₂. value x m₂)
       (bind_less (λ y m₂. while_by u i p f y m₂) (λ y m₂. while_by v j p f y m₂) (g f x m₁) (λ y m₂ t₂. loop_same i j p f y m₂ (omega arith) (omega arith) (omega arith))
       ∙ ap (λ (o : Out Obj). bind o (λ y m₂. while_by v j p f y m₂)) (s f x m₁ (omega arith)))
       refl)
       ∙ ap (λ (o : Out Obj). bind o (tested v j p f x)) (s p x m h)
 
-  condition-same : (p f q : Form) (x : Obj) (m : Meter) → m.steps ≤ N → inside u 0 e P (condition p f q) x m ≡ inside v 0 e P (condition p f q) x m
-  condition-same p f q x m l =
+  condition_same : (p f q : Form) (x : Obj) (m : Meter) → m.steps ≤ N → inside u 0 e P (condition p f q) x m ≡ inside v 0 e P (condition p f q) x m
+  condition_same p f q x m l =
       bind_less (λ b m₁. decide b m₁ (u f x) (u q x)) (λ b m₁. decide b m₁ (v f x) (v q x)) (g p x m)
-      (λ b m₁ t. decide-same b m₁ (u f x) (u q x) (v f x) (v q x) (s f x m₁ (omega arith)) (s q x m₁ (omega arith)))
+      (λ b m₁ t. decide_same b m₁ (u f x) (u q x) (v f x) (v q x) (s f x m₁ (omega arith)) (s q x m₁ (omega arith)))
       ∙ ap (λ (o : Out Obj). bind o (λ b m₁. decide b m₁ (v f x) (v q x))) (s p x m l)
 
-  name-same : (b : Form) (x : Obj) (m : Meter) → m.steps ≤ N → ask_name m (u b x) ≡ ask_name m (v b x)
-  name-same b x m l = go m.names refl
+  name_same : (b : Form) (x : Obj) (m : Meter) → m.steps ≤ N → ask_name m (u b x) ≡ ask_name m (v b x)
+  name_same b x m l = go m.names refl
     where
       go : (d : ℕ) → m.names ≡ d → ask_name m (u b x) ≡ ask_name m (v b x)
       go zero q = rw (q, ask_name)
       go (suc d) q = rw (q, ask_name) (ap (close (suc d)) (s b x (with_names d m) l))
 
-  lookup-same : (w : List ℕ) (x : Obj) (m : Meter) → m.steps ≤ N → inside u 0 e P (name w) x m ≡ inside v 0 e P (name w) x m
-  lookup-same w x m l = go (lookup w P) refl
+  lookup_same : (w : List ℕ) (x : Obj) (m : Meter) → m.steps ≤ N → inside u 0 e P (name w) x m ≡ inside v 0 e P (name w) x m
+  lookup_same w x m l = go (lookup w P) refl
     where
       go : (o : Option Form) → lookup w P ≡ o → inside u 0 e P (name w) x m ≡ inside v 0 e P (name w) x m
       go none q = rw (q, inside)
-      go (some b) q = rw (q, inside) (name-same b x m l)
+      go (some b) q = rw (q, inside) (name_same b x m l)
 
-  insert-same : (f : Form) (x : Obj) (m : Meter) → m.steps ≤ N → insert_on u f x m ≡ insert_on v f x m
-  insert-same f (int a) m l = refl
-  insert-same f (symbol a) m l = refl
-  insert-same f (seq nil) m l = refl
-  insert-same f (seq (x :: xs)) m l = fold_same f x xs m l
+  insert_same : (f : Form) (x : Obj) (m : Meter) → m.steps ≤ N → insert_on u f x m ≡ insert_on v f x m
+  insert_same f (int a) m l = refl
+  insert_same f (symbol a) m l = refl
+  insert_same f (seq nil) m l = refl
+  insert_same f (seq (x :: xs)) m l = fold_same f x xs m l
 
-  apply_all-same : (f : Form) (x : Obj) (m : Meter) → m.steps ≤ N → apply_all_on u f x m ≡ apply_all_on v f x m
-  apply_all-same f (int a) m l = refl
-  apply_all-same f (symbol a) m l = refl
-  apply_all-same f (seq xs) m l = ap (λ (o : Out Objs). bind o gathered) (each_same f xs m l)
+  apply_all_same : (f : Form) (x : Obj) (m : Meter) → m.steps ≤ N → apply_all_on u f x m ≡ apply_all_on v f x m
+  apply_all_same f (int a) m l = refl
+  apply_all_same f (symbol a) m l = refl
+  apply_all_same f (seq xs) m l = ap (λ (o : Out Objs). bind o gathered) (each_same f xs m l)
 
-  pub inside-same : (i j : ℕ) (f : Form) (x : Obj) (m : Meter) → m.steps ≤ N → m.steps ≤ i → m.steps ≤ j → inside u i e P f x m ≡ inside v j e P f x m
-  inside-same i j (word w) x m h k l = refl
-  inside-same i j (name w) x m h k l = lookup-same w x m h
-  inside-same i j (chain fs) x m h k l = parts_same fs x m h
-  inside-same i j (construct fs) x m h k l = ap (λ (o : Out Objs). bind o gathered) (items_same fs x m h)
-  inside-same i j (constant c) x m h k l = refl
-  inside-same i j (insert f) x m h k l = insert-same f x m h
-  inside-same i j (apply_all f) x m h k l = apply_all-same f x m h
-  inside-same i j (bu f c) x m h k l = cells_less 2 m (λ m₁. u f (pair c x) m₁) (λ m₁. v f (pair c x) m₁) (λ m₁ t. s f (pair c x) m₁ (omega arith))
-  inside-same i j (condition p f q) x m h k l = condition-same p f q x m h
-  inside-same i j (while p f) x m h k l = loop_same i j p f x m h k l
+  pub inside_same : (i j : ℕ) (f : Form) (x : Obj) (m : Meter) → m.steps ≤ N → m.steps ≤ i → m.steps ≤ j → inside u i e P f x m ≡ inside v j e P f x m
+  inside_same i j (word w) x m h k l = refl
+  inside_same i j (name w) x m h k l = lookup_same w x m h
+  inside_same i j (chain fs) x m h k l = parts_same fs x m h
+  inside_same i j (construct fs) x m h k l = ap (λ (o : Out Objs). bind o gathered) (items_same fs x m h)
+  inside_same i j (constant c) x m h k l = refl
+  inside_same i j (insert f) x m h k l = insert_same f x m h
+  inside_same i j (apply_all f) x m h k l = apply_all_same f x m h
+  inside_same i j (bu f c) x m h k l = cells_less 2 m (λ m₁. u f (pair c x) m₁) (λ m₁. v f (pair c x) m₁) (λ m₁ t. s f (pair c x) m₁ (omega arith))
+  inside_same i j (condition p f q) x m h k l = condition_same p f q x m h
+  inside_same i j (while p f) x m h k l = loop_same i j p f x m h k l
 
 -- without a step left nothing is applied
 pub dry : (n : ℕ) (e : Edition) (P : Prog) (f : Form) (x : Obj) (m : Meter) → m.steps ≡ 0 → apply n e P f x m ≡ spent no_step m

@@ -16,10 +16,10 @@ use Rattle.language.specs.Reading.{Got, got, and_then, mark, opens, inside_seque
 use Rattle.language.specs.Reading.{after_test, after_part, after_parts, after_form, read_form, read_parts, read_forms, read_part, Placed, definition_at, read_definitions}
 use Rattle.theorems.specs.ReadBack.{CallsNeverDecide}
 use Rattle.theorems.specs.CallsLeft.{Readers, readers, definition_by, readers_from, NoCallLeft}
-use Rattle.theorems.proofs.CallsLeft.{same-readers}
+use Rattle.theorems.proofs.CallsLeft.{same_readers}
 use Rattle.theorems.proofs.Outcomes.{Outcome, meets, refuses_by, place_on}
 use Rattle.theorems.proofs.JudgedWords.{judged_name}
-use Rattle.theorems.proofs.Refusals.{Within, mark-within, word-within, object-within, form-within, part-within, first-within}
+use Rattle.theorems.proofs.Refusals.{Within, mark_within, word_within, object_within, form_within, part_within, first_within}
 
 -- ---- a rule for each step: what it calls reads the same, so it does
 
@@ -32,13 +32,13 @@ module _ {A : Type 0} where
   same_then {k' = k'} (meets q) h f = f _ _ q ∙ ap (λ (u : Got A). and_then u k') h
   same_then {k' = k'} (refuses_by n) h f = ap (λ (u : Got A). and_then u k') h
 
-  same-mark : (b : ℕ) (s : List ℕ) (at : ℕ) (r r' : ℕ → Got A) → 1 ≤ b → (place_from s at + 1 ≤ length s → r (place_from s at + 1) ≡ r' (place_from s at + 1)) → mark b s at r ≡ mark b s at r'
+  same_mark : (b : ℕ) (s : List ℕ) (at : ℕ) (r r' : ℕ → Got A) → 1 ≤ b → (place_from s at + 1 ≤ length s → r (place_from s at + 1) ≡ r' (place_from s at + 1)) → mark b s at r ≡ mark b s at r'
   unfolding mark
-  same-mark b s at r r' n h = same_cond (eqb (byte_at s (place_from s at)) b) (λ t. h (mark-within s (place_from s at) b n t)) (λ t. refl)
+  same_mark b s at r r' n h = same_cond (eqb (byte_at s (place_from s at)) b) (λ t. h (mark_within s (place_from s at) b n t)) (λ t. refl)
 
-  same-opens : (p room : ℕ) (r r' : ℕ → Got A) → r (p + 1) ≡ r' (p + 1) → opens p room r ≡ opens p room r'
+  same_opens : (p room : ℕ) (r r' : ℕ → Got A) → r (p + 1) ≡ r' (p + 1) → opens p room r ≡ opens p room r'
   unfolding opens
-  same-opens p room r r' h = same_cond (eqb room 0) (λ t. refl) (λ t. h)
+  same_opens p room r r' h = same_cond (eqb room 0) (λ t. refl) (λ t. h)
 
 -- ---- objects
 
@@ -48,54 +48,54 @@ module _ (s : List ℕ) where
   same_sequence a r r' h =
       same_cond (eqb (byte_at s (place_from s a)) (code ">")) (λ t. refl) (λ t. ap (λ (u : Got Objs). and_then u (λ xs e. got (seq xs) e)) h)
 
-  same-after-object : (x : Obj) (e : ℕ) (r r' : ℕ → Got Objs) → (place_from s e + 1 ≤ length s → r (place_from s e + 1) ≡ r' (place_from s e + 1)) → after_object s x e r ≡ after_object s x e r'
+  same_after_object : (x : Obj) (e : ℕ) (r r' : ℕ → Got Objs) → (place_from s e + 1 ≤ length s → r (place_from s e + 1) ≡ r' (place_from s e + 1)) → after_object s x e r ≡ after_object s x e r'
   unfolding after_object
-  same-after-object x e r r' h =
+  same_after_object x e r r' h =
       let p = place_from s e in
       same_cond (eqb (byte_at s p) (code ","))
-      (λ t. ap (λ (u : Got Objs). and_then u (λ xs e. got (x :: xs) e)) (h (mark-within s p (code ",") (omega arith) t))) (λ t. refl)
+      (λ t. ap (λ (u : Got Objs). and_then u (λ xs e. got (x :: xs) e)) (h (mark_within s p (code ",") (omega arith) t))) (λ t. refl)
 
 -- ---- forms
 
 module _ (s : List ℕ) where
-  same-after-part : (f : Form) (e : ℕ) (r r' : ℕ → Got Forms) → (place_from s e + 1 ≤ length s → r (place_from s e + 1) ≡ r' (place_from s e + 1)) → after_part s f e r ≡ after_part s f e r'
+  same_after_part : (f : Form) (e : ℕ) (r r' : ℕ → Got Forms) → (place_from s e + 1 ≤ length s → r (place_from s e + 1) ≡ r' (place_from s e + 1)) → after_part s f e r ≡ after_part s f e r'
   unfolding after_part
-  same-after-part f e r r' h =
+  same_after_part f e r r' h =
       let p = place_from s e in
       same_cond (eqb (byte_at s p) (code "."))
-      (λ t. ap (λ (u : Got Forms). and_then u (λ fs e. got (chain (f & fs)) e)) (h (mark-within s p (code ".") (omega arith) t))) (λ t. refl)
+      (λ t. ap (λ (u : Got Forms). and_then u (λ fs e. got (chain (f & fs)) e)) (h (mark_within s p (code ".") (omega arith) t))) (λ t. refl)
 
-  same-after-parts : (f : Form) (e : ℕ) (r r' : ℕ → Got Forms) → (place_from s e + 1 ≤ length s → r (place_from s e + 1) ≡ r' (place_from s e + 1)) → after_parts s f e r ≡ after_parts s f e r'
+  same_after_parts : (f : Form) (e : ℕ) (r r' : ℕ → Got Forms) → (place_from s e + 1 ≤ length s → r (place_from s e + 1) ≡ r' (place_from s e + 1)) → after_parts s f e r ≡ after_parts s f e r'
   unfolding after_parts
-  same-after-parts f e r r' h =
+  same_after_parts f e r r' h =
       let p = place_from s e in
       same_cond (eqb (byte_at s p) (code "."))
-      (λ t. ap (λ (u : Got Forms). and_then u (λ fs e. got (f & fs) e)) (h (mark-within s p (code ".") (omega arith) t))) (λ t. refl)
+      (λ t. ap (λ (u : Got Forms). and_then u (λ fs e. got (f & fs) e)) (h (mark_within s p (code ".") (omega arith) t))) (λ t. refl)
 
-  same-after-form : (f : Form) (e : ℕ) (r r' : ℕ → Got Forms) → (place_from s e + 1 ≤ length s → r (place_from s e + 1) ≡ r' (place_from s e + 1)) → after_form s f e r ≡ after_form s f e r'
+  same_after_form : (f : Form) (e : ℕ) (r r' : ℕ → Got Forms) → (place_from s e + 1 ≤ length s → r (place_from s e + 1) ≡ r' (place_from s e + 1)) → after_form s f e r ≡ after_form s f e r'
   unfolding after_form
-  same-after-form f e r r' h =
+  same_after_form f e r r' h =
       let p = place_from s e in
       same_cond (eqb (byte_at s p) (code ","))
-      (λ t. ap (λ (u : Got Forms). and_then u (λ fs e. got (f & fs) e)) (h (mark-within s p (code ",") (omega arith) t))) (λ t. refl)
+      (λ t. ap (λ (u : Got Forms). and_then u (λ fs e. got (f & fs) e)) (h (mark_within s p (code ",") (omega arith) t))) (λ t. refl)
 
   -- the forms inside are read from behind e on
-  same-after-test : (f : Form) (e : ℕ) (r r' : ℕ → Got Form) → ((a : ℕ) → a ≤ length s → Within s a (r a))
+  same_after_test : (f : Form) (e : ℕ) (r r' : ℕ → Got Form) → ((a : ℕ) → a ≤ length s → Within s a (r a))
       → ((a : ℕ) → e ≤ a → a ≤ length s → r a ≡ r' a) → after_test s f e r ≡ after_test s f e r'
   unfolding after_test
-  same-after-test f e r r' w h =
+  same_after_test f e r r' w h =
       let p = place_from s e in
       let o = place_on s e in
       same_cond (eqb (byte_at s p) (code "-") && eqb (byte_at s (p + 1)) (code ">"))
       (λ t.
-      let i = mark-within s (p + 1) (code ">") (omega arith) ((and-eq-true_iff (eqb (byte_at s p) (code "-")) (eqb (byte_at s (p + 1)) (code ">"))).0 t).1 in
+      let i = mark_within s (p + 1) (code ">") (omega arith) ((and-eq-true_iff (eqb (byte_at s p) (code "-")) (eqb (byte_at s (p + 1)) (code ">"))).0 t).1 in
       same_then (w (p + 2) (omega arith)) (h (p + 2) (omega arith) (omega arith)) (λ g e₁ q₁.
       let o₁ = place_on s e₁ in
       let b₁ = q₁.behind in
-      same-mark (code ";") s e₁ (λ a. and_then (r a) (λ g₁ e. mark (code ")") s e (λ a. got (condition f g g₁) a))) (λ a. and_then (r' a) (λ g₁ e. mark (code ")") s e (λ a. got (condition f g g₁) a))) (omega arith)
+      same_mark (code ";") s e₁ (λ a. and_then (r a) (λ g₁ e. mark (code ")") s e (λ a. got (condition f g g₁) a))) (λ a. and_then (r' a) (λ g₁ e. mark (code ")") s e (λ a. got (condition f g g₁) a))) (omega arith)
       (λ j. ap (λ (u : Got Form). and_then u (λ g₁ e. mark (code ")") s e (λ a. got (condition f g g₁) a))) (h (place_from s e₁ + 1) (omega arith) j))))
       (λ t. same_cond (eqb (byte_at s p) (code "?"))
-      (λ u. ap (λ (v : Got Form). and_then v (λ g e. mark (code ")") s e (λ a. got (while f g) a))) (h (p + 1) (omega arith) (mark-within s p (code "?") (omega arith) u)))
+      (λ u. ap (λ (v : Got Form). and_then v (λ g e. mark (code ")") s e (λ a. got (while f g) a))) (h (p + 1) (omega arith) (mark_within s p (code "?") (omega arith) u)))
       (λ u. refl))
 
 -- ---- Reading's readers and those that end with z, each with enough calls
@@ -115,8 +115,8 @@ module _ (z : Readers) where
         let o = place_on s at in
         same_cond (eqb (byte_at s p) (code "<"))
         (λ t.
-        let i = mark-within s p (code "<") (omega arith) t in
-        same-opens p room (λ a. inside_sequence s a (λ a. read_objs k s a (room - 1))) (λ a. inside_sequence s a (λ a. (others n s).objects a (room - 1)))
+        let i = mark_within s p (code "<") (omega arith) t in
+        same_opens p room (λ a. inside_sequence s a (λ a. read_objs k s a (room - 1))) (λ a. inside_sequence s a (λ a. (others n s).objects a (room - 1)))
         (same_sequence s (p + 1) (λ a. read_objs k s a (room - 1)) (λ a. (others n s).objects a (room - 1)) (objects_any k n s (p + 1) (room - 1) i (omega arith) (omega arith))))
         (λ t. refl)
 
@@ -124,10 +124,10 @@ module _ (z : Readers) where
     objects_any zero n s at room l lk ln = absurd (omega arith)
     objects_any (suc k) zero s at room l lk ln = absurd (omega arith)
     objects_any (suc k) (suc n) s at room l lk ln =
-        same_then (object-within k s at room l) (object_any k n s at room l (omega arith) (omega arith)) (λ x e q.
+        same_then (object_within k s at room l) (object_any k n s at room l (omega arith) (omega arith)) (λ x e q.
         let o = place_on s e in
         let b = q.behind in
-        same-after-object s x e (λ a. read_objs k s a room) (λ a. (others n s).objects a room) (λ i. objects_any k n s (place_from s e + 1) room i (omega arith) (omega arith)))
+        same_after_object s x e (λ a. read_objs k s a room) (λ a. (others n s).objects a room) (λ i. objects_any k n s (place_from s e + 1) room i (omega arith) (omega arith)))
 
   mutual
     unfolding read_part
@@ -142,42 +142,42 @@ module _ (z : Readers) where
         let o = place_on s at in
         same_cond (eqb b (code "["))
         (λ t.
-        let i = mark-within s p (code "[") (omega arith) t in
-        same-opens p room (λ a. and_then (read_forms k s a (room - 1)) (λ fs e. got (construct fs) e)) (λ a. and_then ((others n s).forms a (room - 1)) (λ fs e. got (construct fs) e))
+        let i = mark_within s p (code "[") (omega arith) t in
+        same_opens p room (λ a. and_then (read_forms k s a (room - 1)) (λ fs e. got (construct fs) e)) (λ a. and_then ((others n s).forms a (room - 1)) (λ fs e. got (construct fs) e))
         (ap (λ (u : Got Forms). and_then u (λ fs e. got (construct fs) e)) (forms_any k n s a (room - 1) i (omega arith) (omega arith))))
         (λ t. same_cond (eqb b (code "%"))
         (λ t.
-        let i = mark-within s p (code "%") (omega arith) t in
-        same-opens p room (λ a. and_then (read_obj k s a (room - 1)) (λ x e. got (constant x) e)) (λ a. and_then ((others n s).object a (room - 1)) (λ x e. got (constant x) e))
+        let i = mark_within s p (code "%") (omega arith) t in
+        same_opens p room (λ a. and_then (read_obj k s a (room - 1)) (λ x e. got (constant x) e)) (λ a. and_then ((others n s).object a (room - 1)) (λ x e. got (constant x) e))
         (ap (λ (u : Got Obj). and_then u (λ x e. got (constant x) e)) (object_any k n s a (room - 1) i (omega arith) (omega arith))))
         (λ t. same_cond (eqb b (code "/"))
         (λ t.
-        let i = mark-within s p (code "/") (omega arith) t in
-        same-opens p room (λ a. and_then (read_part k s a (room - 1)) (λ f e. got (insert f) e)) (λ a. and_then ((others n s).part a (room - 1)) (λ f e. got (insert f) e))
+        let i = mark_within s p (code "/") (omega arith) t in
+        same_opens p room (λ a. and_then (read_part k s a (room - 1)) (λ f e. got (insert f) e)) (λ a. and_then ((others n s).part a (room - 1)) (λ f e. got (insert f) e))
         (ap (λ (u : Got Form). and_then u (λ f e. got (insert f) e)) (part_any k n s a (room - 1) i (omega arith) (omega arith))))
         (λ t. same_cond (eqb b (code "@"))
         (λ t.
-        let i = mark-within s p (code "@") (omega arith) t in
-        same-opens p room (λ a. and_then (read_part k s a (room - 1)) (λ f e. got (apply_all f) e)) (λ a. and_then ((others n s).part a (room - 1)) (λ f e. got (apply_all f) e))
+        let i = mark_within s p (code "@") (omega arith) t in
+        same_opens p room (λ a. and_then (read_part k s a (room - 1)) (λ f e. got (apply_all f) e)) (λ a. and_then ((others n s).part a (room - 1)) (λ f e. got (apply_all f) e))
         (ap (λ (u : Got Form). and_then u (λ f e. got (apply_all f) e)) (part_any k n s a (room - 1) i (omega arith) (omega arith))))
         (λ t. same_cond (eqb b (code "{"))
         (λ t.
-        let i = mark-within s p (code "{") (omega arith) t in
-        same-opens p room
+        let i = mark_within s p (code "{") (omega arith) t in
+        same_opens p room
         (λ a. and_then (read_part k s a (room - 1)) (λ f e. mark (code ",") s e (λ a. and_then (read_obj k s a (room - 1)) (λ x e. mark (code "}") s e (λ a. got (bu f x) a)))))
         (λ a. and_then ((others n s).part a (room - 1)) (λ f e. mark (code ",") s e (λ a. and_then ((others n s).object a (room - 1)) (λ x e. mark (code "}") s e (λ a. got (bu f x) a)))))
-        (same_then (part-within k s a (room - 1) i) (part_any k n s a (room - 1) i (omega arith) (omega arith)) (λ f e q.
+        (same_then (part_within k s a (room - 1) i) (part_any k n s a (room - 1) i (omega arith) (omega arith)) (λ f e q.
         let o₁ = place_on s e in
         let b₁ = q.behind in
-        same-mark (code ",") s e (λ a. and_then (read_obj k s a (room - 1)) (λ x e. mark (code "}") s e (λ a. got (bu f x) a))) (λ a. and_then ((others n s).object a (room - 1)) (λ x e. mark (code "}") s e (λ a. got (bu f x) a))) (omega arith)
+        same_mark (code ",") s e (λ a. and_then (read_obj k s a (room - 1)) (λ x e. mark (code "}") s e (λ a. got (bu f x) a))) (λ a. and_then ((others n s).object a (room - 1)) (λ x e. mark (code "}") s e (λ a. got (bu f x) a))) (omega arith)
         (λ j. ap (λ (u : Got Obj). and_then u (λ x e. mark (code "}") s e (λ a. got (bu f x) a))) (object_any k n s (place_from s e + 1) (room - 1) j (omega arith) (omega arith))))))
         (λ t. same_cond (eqb b (code "("))
         (λ t.
-        let i = mark-within s p (code "(") (omega arith) t in
-        same-opens p room (λ a. and_then (read_form k s a (room - 1)) (λ f e. after_test s f e (λ a. read_form k s a (room - 1)))) (λ a. and_then ((others n s).form a (room - 1)) (λ f e. after_test s f e (λ a. (others n s).form a (room - 1))))
-        (same_then (form-within k s a (room - 1) i) (form_any k n s a (room - 1) i (omega arith) (omega arith)) (λ f e q.
+        let i = mark_within s p (code "(") (omega arith) t in
+        same_opens p room (λ a. and_then (read_form k s a (room - 1)) (λ f e. after_test s f e (λ a. read_form k s a (room - 1)))) (λ a. and_then ((others n s).form a (room - 1)) (λ f e. after_test s f e (λ a. (others n s).form a (room - 1))))
+        (same_then (form_within k s a (room - 1) i) (form_any k n s a (room - 1) i (omega arith) (omega arith)) (λ f e q.
         let b₁ = q.behind in
-        same-after-test s f e (λ a. read_form k s a (room - 1)) (λ a. (others n s).form a (room - 1)) (λ c j. form-within k s c (room - 1) j)
+        same_after_test s f e (λ a. read_form k s a (room - 1)) (λ a. (others n s).form a (room - 1)) (λ c j. form_within k s c (room - 1) j)
         (λ c lc j. form_any k n s c (room - 1) j (omega arith) (omega arith)))))
         (λ t. refl))))))
 
@@ -185,35 +185,35 @@ module _ (z : Readers) where
     form_any zero n s at room l lk ln = absurd (omega arith)
     form_any (suc k) zero s at room l lk ln = absurd (omega arith)
     form_any (suc k) (suc n) s at room l lk ln =
-        same_then (part-within k s at room l) (part_any k n s at room l (omega arith) (omega arith)) (λ f e q.
+        same_then (part_within k s at room l) (part_any k n s at room l (omega arith) (omega arith)) (λ f e q.
         let o = place_on s e in
         let b = q.behind in
-        same-after-part s f e (λ a. read_parts k s a room) (λ a. (others n s).parts a room) (λ i. parts_any k n s (place_from s e + 1) room i (omega arith) (omega arith)))
+        same_after_part s f e (λ a. read_parts k s a room) (λ a. (others n s).parts a room) (λ i. parts_any k n s (place_from s e + 1) room i (omega arith) (omega arith)))
 
     parts_any : (k n : ℕ) (s : List ℕ) (at room : ℕ) → at ≤ length s → 4 * (length s - at) + 2 ≤ k → 4 * (length s - at) + 2 ≤ n → read_parts k s at room ≡ (others n s).parts at room
     parts_any zero n s at room l lk ln = absurd (omega arith)
     parts_any (suc k) zero s at room l lk ln = absurd (omega arith)
     parts_any (suc k) (suc n) s at room l lk ln =
-        same_then (part-within k s at room l) (part_any k n s at room l (omega arith) (omega arith)) (λ f e q.
+        same_then (part_within k s at room l) (part_any k n s at room l (omega arith) (omega arith)) (λ f e q.
         let o = place_on s e in
         let b = q.behind in
-        same-after-parts s f e (λ a. read_parts k s a room) (λ a. (others n s).parts a room) (λ i. parts_any k n s (place_from s e + 1) room i (omega arith) (omega arith)))
+        same_after_parts s f e (λ a. read_parts k s a room) (λ a. (others n s).parts a room) (λ i. parts_any k n s (place_from s e + 1) room i (omega arith) (omega arith)))
 
     forms_any : (k n : ℕ) (s : List ℕ) (at room : ℕ) → at ≤ length s → 4 * (length s - at) + 3 ≤ k → 4 * (length s - at) + 3 ≤ n → read_forms k s at room ≡ (others n s).forms at room
     forms_any zero n s at room l lk ln = absurd (omega arith)
     forms_any (suc k) zero s at room l lk ln = absurd (omega arith)
     forms_any (suc k) (suc n) s at room l lk ln =
-        same_then (form-within k s at room l) (form_any k n s at room l (omega arith) (omega arith)) (λ f e q.
+        same_then (form_within k s at room l) (form_any k n s at room l (omega arith) (omega arith)) (λ f e q.
         let o = place_on s e in
         let b = q.behind in
-        same-after-form s f e (λ a. read_forms k s a room) (λ a. (others n s).forms a room) (λ i. forms_any k n s (place_from s e + 1) room i (omega arith) (omega arith)))
+        same_after_form s f e (λ a. read_forms k s a room) (λ a. (others n s).forms a room) (λ i. forms_any k n s (place_from s e + 1) room i (omega arith) (omega arith)))
 
   -- `=form;` from e on
   definition_any : (k n : ℕ) (s : List ℕ) (p : ℕ) (w : List ℕ) (e : ℕ) → 4 * (length s - e) + 2 ≤ k → 4 * (length s - e) + 2 ≤ n → definition_at k s p w e ≡ definition_by s (others n s) p w e
   unfolding definition_at
   definition_any k n s p w e lk ln =
       let o = place_on s e in
-      same-mark (code "=") s e
+      same_mark (code "=") s e
       (λ a. and_then (read_form k s a mark_limit) (λ f e. mark (code ";") s e (λ a. got (record { place = p; def = record { called = w; body = f } }) a)))
       (λ a. and_then ((others n s).form a mark_limit) (λ f e. mark (code ";") s e (λ a. got (record { place = p; def = record { called = w; body = f } }) a))) (omega arith)
       (λ i. ap (λ (u : Got Form). and_then u (λ f e. mark (code ";") s e (λ a. got (record { place = p; def = record { called = w; body = f } }) a)))
@@ -226,8 +226,8 @@ module _ (z : Readers) where
   definitions_any (suc k) (suc n) s at l lk ln =
       let p = place_from s at in
       same_cond (eqb p (length s)) (λ t. refl)
-      (λ t. same_then (first-within k s at l)
-      (same_then (word-within s at judge_name l refl judged_name) refl (λ w e q.
+      (λ t. same_then (first_within k s at l)
+      (same_then (word_within s at judge_name l refl judged_name) refl (λ w e q.
       let b = q.behind in
       let i = q.inside in
       definition_any k n s p w e (omega arith) (omega arith)))
@@ -240,27 +240,27 @@ module _ (z : Readers) where
 
 module _ (k n : ℕ) (s : List ℕ) (at room : ℕ) (l : at ≤ length s) where
   pub object_calls : 2 * (length s - at) + 1 ≤ k → 2 * (length s - at) + 1 ≤ n → read_obj k s at room ≡ read_obj n s at room
-  object_calls lk ln = object_any (readers 0 s) k n s at room l lk ln ∙ ap (λ (r : Readers). r.object at room) (same-readers n s)
+  object_calls lk ln = object_any (readers 0 s) k n s at room l lk ln ∙ ap (λ (r : Readers). r.object at room) (same_readers n s)
 
-  pub part-calls : 4 * (length s - at) + 1 ≤ k → 4 * (length s - at) + 1 ≤ n → read_part k s at room ≡ read_part n s at room
-  part-calls lk ln = part_any (readers 0 s) k n s at room l lk ln ∙ ap (λ (r : Readers). r.part at room) (same-readers n s)
+  pub part_calls : 4 * (length s - at) + 1 ≤ k → 4 * (length s - at) + 1 ≤ n → read_part k s at room ≡ read_part n s at room
+  part_calls lk ln = part_any (readers 0 s) k n s at room l lk ln ∙ ap (λ (r : Readers). r.part at room) (same_readers n s)
 
-  pub form-calls : 4 * (length s - at) + 2 ≤ k → 4 * (length s - at) + 2 ≤ n → read_form k s at room ≡ read_form n s at room
-  form-calls lk ln = form_any (readers 0 s) k n s at room l lk ln ∙ ap (λ (r : Readers). r.form at room) (same-readers n s)
+  pub form_calls : 4 * (length s - at) + 2 ≤ k → 4 * (length s - at) + 2 ≤ n → read_form k s at room ≡ read_form n s at room
+  form_calls lk ln = form_any (readers 0 s) k n s at room l lk ln ∙ ap (λ (r : Readers). r.form at room) (same_readers n s)
 
-  pub parts-calls : 4 * (length s - at) + 2 ≤ k → 4 * (length s - at) + 2 ≤ n → read_parts k s at room ≡ read_parts n s at room
-  parts-calls lk ln = parts_any (readers 0 s) k n s at room l lk ln ∙ ap (λ (r : Readers). r.parts at room) (same-readers n s)
+  pub parts_calls : 4 * (length s - at) + 2 ≤ k → 4 * (length s - at) + 2 ≤ n → read_parts k s at room ≡ read_parts n s at room
+  parts_calls lk ln = parts_any (readers 0 s) k n s at room l lk ln ∙ ap (λ (r : Readers). r.parts at room) (same_readers n s)
 
-  pub forms-calls : 4 * (length s - at) + 3 ≤ k → 4 * (length s - at) + 3 ≤ n → read_forms k s at room ≡ read_forms n s at room
-  forms-calls lk ln = forms_any (readers 0 s) k n s at room l lk ln ∙ ap (λ (r : Readers). r.forms at room) (same-readers n s)
+  pub forms_calls : 4 * (length s - at) + 3 ≤ k → 4 * (length s - at) + 3 ≤ n → read_forms k s at room ≡ read_forms n s at room
+  forms_calls lk ln = forms_any (readers 0 s) k n s at room l lk ln ∙ ap (λ (r : Readers). r.forms at room) (same_readers n s)
 
-pub definitions-calls : (k n : ℕ) (s : List ℕ) (at : ℕ) → at ≤ length s → 4 * (length s - at) + 1 ≤ k → 4 * (length s - at) + 1 ≤ n → read_definitions k s at ≡ read_definitions n s at
-definitions-calls k n s at l lk ln = definitions_any (readers 0 s) k n s at l lk ln ∙ ap (λ (r : Readers). r.definitions at) (same-readers n s)
+pub definitions_calls : (k n : ℕ) (s : List ℕ) (at : ℕ) → at ≤ length s → 4 * (length s - at) + 1 ≤ k → 4 * (length s - at) + 1 ≤ n → read_definitions k s at ≡ read_definitions n s at
+definitions_calls k n s at l lk ln = definitions_any (readers 0 s) k n s at l lk ln ∙ ap (λ (r : Readers). r.definitions at) (same_readers n s)
 
-pub no_call-left : NoCallLeft
-no_call-left z s k l =
+pub no_call_left : NoCallLeft
+no_call_left z s k l =
     (sym (object_any z k k s 0 mark_limit (omega arith) (omega arith) (omega arith)), sym (definitions_any z k k s 0 (omega arith) (omega arith) (omega arith)))
 
 pub calls_never_decide : CallsNeverDecide
 calls_never_decide s k l =
-    (object_calls k (calls s) s 0 mark_limit (omega arith) (omega arith) (omega arith), definitions-calls k (calls s) s 0 (omega arith) (omega arith) (omega arith))
+    (object_calls k (calls s) s 0 mark_limit (omega arith) (omega arith) (omega arith), definitions_calls k (calls s) s 0 (omega arith) (omega arith) (omega arith))

@@ -9,6 +9,6 @@ one_more : (k : ℕ) (s : List ℕ) → readers_by s (readers k s) ≡ readers (
 unfolding read_obj read_form definition_at read_definitions
 one_more k s = refl
 
-pub same-readers : SameReaders
-same-readers zero s = refl
-same-readers (suc k) s = ap (readers_by s) (same-readers k s) ∙ one_more k s
+pub same_readers : SameReaders
+same_readers zero s = refl
+same_readers (suc k) s = ap (readers_by s) (same_readers k s) ∙ one_more k s

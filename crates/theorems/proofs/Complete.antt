@@ -13,7 +13,7 @@ use Rattle.language.specs.Meanings.{gives, pair}
 use Rattle.language.specs.Charging.{take_cells, with_names}
 use Rattle.language.specs.Evaluation.{Out, value, bottom as fallen, bind, ask_step, ask_steps, ask_cells, close, ask_name, charged, chain_by, construct_by, each_by, insert_by, while_by, decide, inside, apply}
 use Rattle.language.proofs.Charging.{meter_same}
-use Rattle.theorems.proofs.Ends.{Job, just, parts, items, each, fold, loop, Result, object, bottom, Ends, word-bottom, word-object, name-bottom, name_in, chain_in, construct-object, construct-bottom, constant_in, insert_fold, insert-nil, insert_int, insert-symbol, apply_all-object, apply_all-bottom, apply_all_int, apply_all-symbol, bu_in, condition-bottom, condition_no, condition_T, condition-F, while_in, parts-stop, parts-bottom, parts_go, items_stop, items_bottom, items_late, items_go, each_nil, each_bottom, each_late, each_go, fold_one, fold_bottom, fold_go, loop_bottom, loop_no, loop_F, loop_fell, loop_go}
+use Rattle.theorems.proofs.Ends.{Job, just, parts, items, each, fold, loop, Result, object, bottom, Ends, word_bottom, word_object, name_bottom, name_in, chain_in, construct_object, construct_bottom, constant_in, insert_fold, insert-nil, insert_int, insert_symbol, apply_all_object, apply_all_bottom, apply_all_int, apply_all_symbol, bu_in, condition_bottom, condition_no, condition_T, condition_F, while_in, parts_stop, parts_bottom, parts_go, items_stop, items_bottom, items_late, items_go, each_nil, each_bottom, each_late, each_go, fold_one, fold_bottom, fold_go, loop_bottom, loop_no, loop_F, loop_fell, loop_go}
 
 -- m' is what is left of m after s steps and c cells
 pub record Paid (m : Meter) (s c : ℕ) (m' : Meter) : Type 0 where
@@ -83,27 +83,27 @@ done {m} {m'} p = meter_same m m' (omega (arith, p.steps)) p.names (omega (arith
 
 module _ (e : Edition) (P : Prog) where
   pub just_pos : {d : ℕ} {f : Form} {x : Obj} {r : Result} {s c : ℕ} → Ends e P d (just f x) r s c → 1 ≤ s
-  just_pos (word-bottom h) = omega arith
-  just_pos (word-object h) = omega arith
-  just_pos (name-bottom h) = omega arith
+  just_pos (word_bottom h) = omega arith
+  just_pos (word_object h) = omega arith
+  just_pos (name_bottom h) = omega arith
   just_pos (name_in h D) = omega arith
   just_pos (chain_in D) = omega arith
-  just_pos (construct-object D) = omega arith
-  just_pos (construct-bottom D) = omega arith
+  just_pos (construct_object D) = omega arith
+  just_pos (construct_bottom D) = omega arith
   just_pos constant_in = omega arith
   just_pos (insert_fold D) = omega arith
   just_pos insert-nil = omega arith
   just_pos insert_int = omega arith
-  just_pos insert-symbol = omega arith
-  just_pos (apply_all-object D) = omega arith
-  just_pos (apply_all-bottom D) = omega arith
+  just_pos insert_symbol = omega arith
+  just_pos (apply_all_object D) = omega arith
+  just_pos (apply_all_bottom D) = omega arith
   just_pos apply_all_int = omega arith
-  just_pos apply_all-symbol = omega arith
+  just_pos apply_all_symbol = omega arith
   just_pos (bu_in D) = omega arith
-  just_pos (condition-bottom D) = omega arith
+  just_pos (condition_bottom D) = omega arith
   just_pos (condition_no D h) = omega arith
   just_pos (condition_T D h E) = omega arith
-  just_pos (condition-F D h E) = omega arith
+  just_pos (condition_F D h E) = omega arith
   just_pos (while_in D) = omega arith
 
   abbrev pub Meets : ℕ → Job → Result → Meter → Meter → Type 0
@@ -129,44 +129,44 @@ module _ (e : Edition) (P : Prog) where
   round n m g f x (suc j) u v k = k j u
 
   pub complete : {d : ℕ} {j : Job} {r : Result} {s c : ℕ} → Ends e P d j r s c → (n : ℕ) (m m' : Meter) → Paid m s c m' → d ≤ m.names → m.steps ≤ n → Meets n j r m m'
-  complete (word-bottom h) n m m' p q t = paid_step _ _ n p t (λ n₁ m₁ p₁ q₁ t₁. rw h (ap fallen (done p₁)))
-  complete (word-object {v = v} {s = s} {c = c} h) n m m' p q t =
+  complete (word_bottom h) n m m' p q t = paid_step _ _ n p t (λ n₁ m₁ p₁ q₁ t₁. rw h (ap fallen (done p₁)))
+  complete (word_object {v = v} {s = s} {c = c} h) n m m' p q t =
       paid_step _ _ n p t (λ n₁ m₁ p₁ q₁ t₁. rw h (paid_word s c v p₁))
-  complete (name-bottom h) n m m' p q t = paid_step _ _ n p t (λ n₁ m₁ p₁ q₁ t₁. rw (h, inside) (ap fallen (done p₁)))
+  complete (name_bottom h) n m m' p q t = paid_step _ _ n p t (λ n₁ m₁ p₁ q₁ t₁. rw (h, inside) (ap fallen (done p₁)))
   complete (name_in {b = b} {x = x} {r = r} h D) n m m' p q t =
       paid_step _ _ n p t (λ n₁ m₁ p₁ q₁ t₁. rw (h, inside) (ask_name_lem m₁ m' p₁.names (omega arith) (λ m₂. apply n₁ e P b x m₂) r (λ N u.
       complete D n₁ (with_names N m₁) (with_names N m') (record { steps = p₁.steps; cells = p₁.cells; names = refl }) (omega arith) t₁)))
   complete (chain_in D) n m m' p q t = paid_step _ _ n p t (λ n₁ m₁ p₁ q₁ t₁. complete D n₁ m₁ m' p₁ (omega arith) t₁)
-  complete (construct-object {ys = ys} D) n m m' p q t =
+  complete (construct_object {ys = ys} D) n m m' p q t =
       paid_step _ _ n p t (λ n₁ m₁ p₁ q₁ t₁. rw (complete D n₁ m₁ (mid 0 (length_of ys) m') (paid_cells _ p₁) (omega arith) t₁)
       (ask_cells_lem (length_of ys) (mid 0 (length_of ys) m') m' (λ m₂. value (seq ys) m₂) paid_right))
-  complete (construct-bottom D) n m m' p q t = paid_step _ _ n p t (λ n₁ m₁ p₁ q₁ t₁. rw (complete D n₁ m₁ m' p₁ (omega arith) t₁))
+  complete (construct_bottom D) n m m' p q t = paid_step _ _ n p t (λ n₁ m₁ p₁ q₁ t₁. rw (complete D n₁ m₁ m' p₁ (omega arith) t₁))
   complete (constant_in {y = y}) n m m' p q t = paid_step _ _ n p t (λ n₁ m₁ p₁ q₁ t₁. ap (value y) (done p₁))
   complete (insert_fold D) n m m' p q t = paid_step _ _ n p t (λ n₁ m₁ p₁ q₁ t₁. complete D n₁ m₁ m' p₁ (omega arith) t₁)
   complete insert-nil n m m' p q t = paid_step _ _ n p t (λ n₁ m₁ p₁ q₁ t₁. ap fallen (done p₁))
   complete insert_int n m m' p q t = paid_step _ _ n p t (λ n₁ m₁ p₁ q₁ t₁. ap fallen (done p₁))
-  complete insert-symbol n m m' p q t = paid_step _ _ n p t (λ n₁ m₁ p₁ q₁ t₁. ap fallen (done p₁))
-  complete (apply_all-object {ys = ys} D) n m m' p q t =
+  complete insert_symbol n m m' p q t = paid_step _ _ n p t (λ n₁ m₁ p₁ q₁ t₁. ap fallen (done p₁))
+  complete (apply_all_object {ys = ys} D) n m m' p q t =
       paid_step _ _ n p t (λ n₁ m₁ p₁ q₁ t₁. rw (complete D n₁ m₁ (mid 0 (length_of ys) m') (paid_cells _ p₁) (omega arith) t₁)
       (ask_cells_lem (length_of ys) (mid 0 (length_of ys) m') m' (λ m₂. value (seq ys) m₂) paid_right))
-  complete (apply_all-bottom D) n m m' p q t = paid_step _ _ n p t (λ n₁ m₁ p₁ q₁ t₁. rw (complete D n₁ m₁ m' p₁ (omega arith) t₁))
+  complete (apply_all_bottom D) n m m' p q t = paid_step _ _ n p t (λ n₁ m₁ p₁ q₁ t₁. rw (complete D n₁ m₁ m' p₁ (omega arith) t₁))
   complete apply_all_int n m m' p q t = paid_step _ _ n p t (λ n₁ m₁ p₁ q₁ t₁. ap fallen (done p₁))
-  complete apply_all-symbol n m m' p q t = paid_step _ _ n p t (λ n₁ m₁ p₁ q₁ t₁. ap fallen (done p₁))
+  complete apply_all_symbol n m m' p q t = paid_step _ _ n p t (λ n₁ m₁ p₁ q₁ t₁. ap fallen (done p₁))
   complete (bu_in {f = f} {y = y} {x = x} {s = s} {c = c} D) n m m' p q t =
       paid_step _ _ n p t (λ n₁ m₁ p₁ q₁ t₁. ask_cells_lem 2 m₁ (mid s c m') (λ m₂. apply n₁ e P f (pair y x) m₂)
       (record { steps = omega (arith, p₁.steps); cells = omega (arith, p₁.cells); names = p₁.names })
       ∙ complete D n₁ (mid s c m') m' paid_right (omega arith) (omega arith))
-  complete (condition-bottom D) n m m' p q t = paid_step _ _ n p t (λ n₁ m₁ p₁ q₁ t₁. rw (complete D n₁ m₁ m' p₁ (omega arith) t₁))
+  complete (condition_bottom D) n m m' p q t = paid_step _ _ n p t (λ n₁ m₁ p₁ q₁ t₁. rw (complete D n₁ m₁ m' p₁ (omega arith) t₁))
   complete (condition_no D h) n m m' p q t = paid_step _ _ n p t (λ n₁ m₁ p₁ q₁ t₁. rw (complete D n₁ m₁ m' p₁ (omega arith) t₁) (rw (h, bind, decide)))
   complete (condition_T {s' = s'} {c' = c'} D h E) n m m' p q t =
       paid_step _ _ n p t (λ n₁ m₁ p₁ q₁ t₁. rw (complete D n₁ m₁ (mid s' c' m') (paid_left s' c' p₁) (omega arith) t₁)
       (rw (h, bind, decide) (complete E n₁ (mid s' c' m') m' paid_right (omega arith) (omega arith))))
-  complete (condition-F {s' = s'} {c' = c'} D h E) n m m' p q t =
+  complete (condition_F {s' = s'} {c' = c'} D h E) n m m' p q t =
       paid_step _ _ n p t (λ n₁ m₁ p₁ q₁ t₁. rw (complete D n₁ m₁ (mid s' c' m') (paid_left s' c' p₁) (omega arith) t₁)
       (rw (h, bind, decide) (complete E n₁ (mid s' c' m') m' paid_right (omega arith) (omega arith))))
   complete (while_in D) n m m' p q t = paid_step _ _ n p t (λ n₁ m₁ p₁ q₁ t₁. complete D n₁ m₁ m' p₁ (omega arith) t₁ n₁ t₁)
-  complete (parts-stop {x = x}) n m m' p q t = ap (value x) (done p)
-  complete (parts-bottom D) n m m' p q t = rw (complete D n m m' p (omega arith) t)
+  complete (parts_stop {x = x}) n m m' p q t = ap (value x) (done p)
+  complete (parts_bottom D) n m m' p q t = rw (complete D n m m' p (omega arith) t)
   complete (parts_go {s' = s'} {c' = c'} D E) n m m' p q t =
       rw (complete D n m (mid s' c' m') (paid_left s' c' p) (omega arith) t) (complete E n (mid s' c' m') m' paid_right (omega arith) (omega arith))
   complete items_stop n m m' p q t = ap (value nil) (done p)

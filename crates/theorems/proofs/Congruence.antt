@@ -4,7 +4,7 @@ use native.Mathlib.Omega.{arith}
 use Rattle.language.specs.Objects.{Obj, Objs}
 use Rattle.language.specs.Forms.{Form, chain, construct, insert, apply_all, bu, condition, while, Forms, ◌&◌, Prog}
 use Rattle.language.specs.Numbers.{Edition}
-use Rattle.theorems.proofs.Ends.{Job, just, parts, items, each, fold, loop, Result, Ends, chain_in, construct-object, construct-bottom, insert_fold, insert-nil, insert_int, insert-symbol, apply_all-object, apply_all-bottom, apply_all_int, apply_all-symbol, bu_in, condition-bottom, condition_no, condition_T, condition-F, while_in, parts-bottom, parts_go, items_bottom, items_late, items_go, each_nil, each_bottom, each_late, each_go, fold_one, fold_bottom, fold_go, loop_bottom, loop_no, loop_F, loop_fell, loop_go}
+use Rattle.theorems.proofs.Ends.{Job, just, parts, items, each, fold, loop, Result, Ends, chain_in, construct_object, construct_bottom, insert_fold, insert-nil, insert_int, insert_symbol, apply_all_object, apply_all_bottom, apply_all_int, apply_all_symbol, bu_in, condition_bottom, condition_no, condition_T, condition_F, while_in, parts_bottom, parts_go, items_bottom, items_late, items_go, each_nil, each_bottom, each_late, each_go, fold_one, fold_bottom, fold_go, loop_bottom, loop_no, loop_F, loop_fell, loop_go}
 
 -- names, steps and cells before, and after
 abbrev pub Rel : Type 1
@@ -71,15 +71,15 @@ module _ (e : Edition) (Q : Prog) (R : Rel) (k : Closed R) where
       record { d' = B'.d'; s' = B'.s'; c' = B'.c'; ends = B'.ends; rel = k.trans B.rel B'.rel }
 
   pub parts_head : {f f' : Form} (fs : Forms) → SubF e Q R f f' → (x : Obj) → Sub e Q R (parts (f & fs) x) (parts (f' & fs) x)
-  parts_head fs p x d r s c (parts-bottom D) = record { d' = _; s' = _; c' = _; ends = parts-bottom D; rel = k.same _ _ _ }
+  parts_head fs p x d r s c (parts_bottom D) = record { d' = _; s' = _; c' = _; ends = parts_bottom D; rel = k.same _ _ _ }
   parts_head fs p x d r s c (parts_go D E) =
       let B = p _ _ _ _ _ E in
       record { d' = _; s' = _; c' = _; ends = parts_go D B.ends; rel = k.add (k.same _ _ _) B.rel }
 
   pub parts_tail : (f : Form) {fs fs' : Forms} (x : Obj) → Sub e Q R (parts fs x) (parts fs' x) → Sub e Q R (parts (f & fs) x) (parts (f & fs') x)
-  parts_tail f x p d r s c (parts-bottom D) =
+  parts_tail f x p d r s c (parts_bottom D) =
       let B = p _ _ _ _ D in
-      record { d' = _; s' = _; c' = _; ends = parts-bottom B.ends; rel = B.rel }
+      record { d' = _; s' = _; c' = _; ends = parts_bottom B.ends; rel = B.rel }
   parts_tail f x p d r s c (parts_go D E) =
       let B = p _ _ _ _ D in
       record { d' = _; s' = _; c' = _; ends = parts_go B.ends E; rel = k.add B.rel (k.same _ _ _) }
@@ -110,12 +110,12 @@ module _ (e : Edition) (Q : Prog) (R : Rel) (k : Closed R) where
       record { d' = _; s' = _; c' = _; ends = items_go D B.ends; rel = k.add (k.same _ _ _) B.rel }
 
   pub construct-sub : {fs fs' : Forms} (x : Obj) → Sub e Q R (items fs x) (items fs' x) → Sub e Q R (just (construct fs) x) (just (construct fs') x)
-  construct-sub x p d r s c (construct-object D) =
+  construct-sub x p d r s c (construct_object D) =
       let B = p _ _ _ _ D in
-      record { d' = _; s' = _; c' = _; ends = construct-object B.ends; rel = k.tick (k.more' _ B.rel) }
-  construct-sub x p d r s c (construct-bottom D) =
+      record { d' = _; s' = _; c' = _; ends = construct_object B.ends; rel = k.tick (k.more' _ B.rel) }
+  construct-sub x p d r s c (construct_bottom D) =
       let B = p _ _ _ _ D in
-      record { d' = _; s' = _; c' = _; ends = construct-bottom B.ends; rel = k.tick B.rel }
+      record { d' = _; s' = _; c' = _; ends = construct_bottom B.ends; rel = k.tick B.rel }
 
   pub each_sub : {f f' : Form} → SubF e Q R f f' → {xs : Objs} → Sub e Q R (each f xs) (each f' xs)
   each_sub p d r s c each_nil = record { d' = _; s' = _; c' = _; ends = each_nil; rel = k.same _ _ _ }
@@ -132,14 +132,14 @@ module _ (e : Edition) (Q : Prog) (R : Rel) (k : Closed R) where
       record { d' = _; s' = _; c' = _; ends = each_go B.ends B'.ends; rel = k.add B.rel B'.rel }
 
   pub apply_all-sub : {f f' : Form} → SubF e Q R f f' → SubF e Q R (apply_all f) (apply_all f')
-  apply_all-sub p x d r s c (apply_all-object D) =
+  apply_all-sub p x d r s c (apply_all_object D) =
       let B = each_sub p _ _ _ _ D in
-      record { d' = _; s' = _; c' = _; ends = apply_all-object B.ends; rel = k.tick (k.more' _ B.rel) }
-  apply_all-sub p x d r s c (apply_all-bottom D) =
+      record { d' = _; s' = _; c' = _; ends = apply_all_object B.ends; rel = k.tick (k.more' _ B.rel) }
+  apply_all-sub p x d r s c (apply_all_bottom D) =
       let B = each_sub p _ _ _ _ D in
-      record { d' = _; s' = _; c' = _; ends = apply_all-bottom B.ends; rel = k.tick B.rel }
+      record { d' = _; s' = _; c' = _; ends = apply_all_bottom B.ends; rel = k.tick B.rel }
   apply_all-sub p x d r s c apply_all_int = record { d' = _; s' = _; c' = _; ends = apply_all_int; rel = k.same _ _ _ }
-  apply_all-sub p x d r s c apply_all-symbol = record { d' = _; s' = _; c' = _; ends = apply_all-symbol; rel = k.same _ _ _ }
+  apply_all-sub p x d r s c apply_all_symbol = record { d' = _; s' = _; c' = _; ends = apply_all_symbol; rel = k.same _ _ _ }
 
   pub fold_sub : {f f' : Form} → SubF e Q R f f' → {y : Obj} {ys : Objs} → Sub e Q R (fold f y ys) (fold f' y ys)
   fold_sub p d r s c fold_one = record { d' = _; s' = _; c' = _; ends = fold_one; rel = k.same _ _ _ }
@@ -157,7 +157,7 @@ module _ (e : Edition) (Q : Prog) (R : Rel) (k : Closed R) where
       record { d' = _; s' = _; c' = _; ends = insert_fold B.ends; rel = k.tick B.rel }
   insert-sub p x d r s c insert-nil = record { d' = _; s' = _; c' = _; ends = insert-nil; rel = k.same _ _ _ }
   insert-sub p x d r s c insert_int = record { d' = _; s' = _; c' = _; ends = insert_int; rel = k.same _ _ _ }
-  insert-sub p x d r s c insert-symbol = record { d' = _; s' = _; c' = _; ends = insert-symbol; rel = k.same _ _ _ }
+  insert-sub p x d r s c insert_symbol = record { d' = _; s' = _; c' = _; ends = insert_symbol; rel = k.same _ _ _ }
 
   pub bu_sub : {f f' : Form} (y : Obj) → SubF e Q R f f' → SubF e Q R (bu f y) (bu f' y)
   bu_sub y p x d r s c (bu_in D) =
@@ -165,9 +165,9 @@ module _ (e : Edition) (Q : Prog) (R : Rel) (k : Closed R) where
       record { d' = _; s' = _; c' = _; ends = bu_in B.ends; rel = k.tick (k.more 2 B.rel) }
 
   pub condition-sub : {p p' f f' g g' : Form} → SubF e Q R p p' → SubF e Q R f f' → SubF e Q R g g' → SubF e Q R (condition p f g) (condition p' f' g')
-  condition-sub p f g x d r s c (condition-bottom D) =
+  condition-sub p f g x d r s c (condition_bottom D) =
       let B = p _ _ _ _ _ D in
-      record { d' = _; s' = _; c' = _; ends = condition-bottom B.ends; rel = k.tick B.rel }
+      record { d' = _; s' = _; c' = _; ends = condition_bottom B.ends; rel = k.tick B.rel }
   condition-sub p f g x d r s c (condition_no D h) =
       let B = p _ _ _ _ _ D in
       record { d' = _; s' = _; c' = _; ends = condition_no B.ends h; rel = k.tick B.rel }
@@ -175,10 +175,10 @@ module _ (e : Edition) (Q : Prog) (R : Rel) (k : Closed R) where
       let B = p _ _ _ _ _ D in
       let B' = f _ _ _ _ _ E in
       record { d' = _; s' = _; c' = _; ends = condition_T B.ends h B'.ends; rel = k.tick (k.add B.rel B'.rel) }
-  condition-sub p f g x d r s c (condition-F D h E) =
+  condition-sub p f g x d r s c (condition_F D h E) =
       let B = p _ _ _ _ _ D in
       let B' = g _ _ _ _ _ E in
-      record { d' = _; s' = _; c' = _; ends = condition-F B.ends h B'.ends; rel = k.tick (k.add B.rel B'.rel) }
+      record { d' = _; s' = _; c' = _; ends = condition_F B.ends h B'.ends; rel = k.tick (k.add B.rel B'.rel) }
 
   pub loop_sub : {p p' f f' : Form} → SubF e Q R p p' → SubF e Q R f f' → {x : Obj} → Sub e Q R (loop p f x) (loop p' f' x)
   loop_sub p f d r s c (loop_bottom D) =

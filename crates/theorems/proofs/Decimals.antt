@@ -66,17 +66,17 @@ pub under_power : (n : ℕ) → n < 10 ^ suc n
 under_power zero = omega arith
 under_power (suc n) = omega (arith, pow-suc 10 (suc n), under_power n)
 
-pub decimal-digits : (n : ℕ) → all is_digit (decimal n) ≡ true
+pub decimal_digits : (n : ℕ) → all is_digit (decimal n) ≡ true
 unfolding decimal
-decimal-digits n = digits_all n n
+decimal_digits n = digits_all n n
 
-pub decimal-value : (n : ℕ) → value_of (decimal n) ≡ n
+pub decimal_value : (n : ℕ) → value_of (decimal n) ≡ n
 unfolding decimal
-decimal-value n = digits_value n n (under_power n)
+decimal_value n = digits_value n n (under_power n)
 
-pub decimal-long : (n : ℕ) → 0 < length (decimal n)
+pub decimal_long : (n : ℕ) → 0 < length (decimal n)
 unfolding decimal
-decimal-long n = digits_long n n
+decimal_long n = digits_long n n
 
 -- a zero stands alone
 pub decimal-zero : (n : ℕ) → get_or (decimal n) 0 0 ≡ 48 → (n ≡ 0) × (length (decimal n) ≡ 1)
@@ -88,5 +88,5 @@ no_leading [] f = refl
 no_leading (b ∷ []) f = refl
 no_leading (b ∷ c ∷ ds) f = ne_eqb b 48 (λ e. omega (arith, f e))
 
-pub decimal-plain : (n : ℕ) → leading_zero (decimal n) ≡ false
-decimal-plain n = no_leading (decimal n) (λ e. (decimal-zero n e).1)
+pub decimal_plain : (n : ℕ) → leading_zero (decimal n) ≡ false
+decimal_plain n = no_leading (decimal n) (λ e. (decimal-zero n e).1)

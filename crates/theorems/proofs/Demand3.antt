@@ -16,7 +16,7 @@ use Rattle.theorems.proofs.Congruence.{Less, Less-closed, Any, Any-closed}
 use Rattle.theorems.proofs.Simulation.{Link, sim}
 use Rattle.theorems.proofs.Implies.{ImpF, imp_refl}
 use Rattle.theorems.proofs.Anywhere.{OneBody, this, later}
-use Rattle.theorems.proofs.Refines.{RefF, one_body, no_more-cells}
+use Rattle.theorems.proofs.Refines.{RefF, one_body, no_more_cells}
 use Rattle.theorems.proofs.Reached.{ran_complete, ran_sound}
 
 -- what a name has in the two programs
@@ -24,18 +24,18 @@ data Pair : Option Form → Option Form → Type 0 where
   p_none : Pair none none
   p_some : {a b : Form} → ((e : Edition) (Q : Prog) → ImpF e Q a b) → Pair (some a) (some b)
 
-pair-refl : (o : Option Form) → Pair o o
-pair-refl none = p_none
-pair-refl (some a) = p_some (λ e Q x. imp_refl e Q _)
+pair_refl : (o : Option Form) → Pair o o
+pair_refl none = p_none
+pair_refl (some a) = p_some (λ e Q x. imp_refl e Q _)
 
-pick-pair : (b : Bool) {o o' q q' : Option Form} → Pair o o' → Pair q q'
+pick_pair : (b : Bool) {o o' q q' : Option Form} → Pair o o' → Pair q q'
     → Pair (elim b as (λ (b : Bool). Option Form) [ true ↦ o | false ↦ q ]) (elim b as (λ (b : Bool). Option Form) [ true ↦ o' | false ↦ q' ])
-pick-pair true p q = p
-pick-pair false p q = q
+pick_pair true p q = p
+pick_pair false p q = q
 
 pairs : {P P' : Prog} → OneBody RefF P P' → (w : List ℕ) → Pair (lookup w P) (lookup w P')
-pairs (this d ds f K) w = pick-pair (same_bytes w d.called) (p_some K.imp) (pair-refl (lookup w ds))
-pairs (later d B) w = pick-pair (same_bytes w d.called) (pair-refl (some d.body)) (pairs B w)
+pairs (this d ds f K) w = pick_pair (same_bytes w d.called) (p_some K.imp) (pair_refl (lookup w ds))
+pairs (later d B) w = pick_pair (same_bytes w d.called) (pair_refl (some d.body)) (pairs B w)
 
 link_fwd : (e : Edition) (P Q : Prog) {o o' : Option Form} → Pair o o' → Link e P Q Less Less-closed o o'
 link_fwd e P Q p_none = tt
@@ -75,7 +75,7 @@ one_bwd e P P' F x b r s c u =
 fwd : (e : Edition) {P P' : Prog} → Uses P P' → (x : Obj) (b : Meter) (r : Result) (s c : ℕ) → run e P x b ≡ reaches r s c → NoMore e P' x b r s c
 fwd e no_use x b r s c u = record { s' = s; c' = c; answers = u; steps = omega arith; cells = omega arith }
 fwd e (use_then {P = P} {P' = P'} l i h U) x b r s c u =
-    let N = one_fwd e P P' (one_body l i P P' h) (no_more-cells l i P P' h) x b r s c u in
+    let N = one_fwd e P P' (one_body l i P P' h) (no_more_cells l i P P' h) x b r s c u in
     let M = fwd e U x b r N.s' N.c' N.answers in
     record { s' = M.s'; c' = M.c'; answers = M.answers; steps = omega (arith, N.steps, M.steps); cells = omega (arith, N.cells, M.cells) }
 

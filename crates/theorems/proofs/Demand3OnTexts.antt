@@ -24,7 +24,7 @@ use Rattle.theorems.specs.Demand3.{bottom as bottomResult}
 use Rattle.theorems.proofs.ProgramsBack.{programs_read_back}
 use Rattle.theorems.proofs.ProgramsRead.{programs_read}
 use Rattle.theorems.proofs.EachUse.{each_use_shrinks}
-use Rattle.theorems.proofs.Refusals.{objects-refused, programs_refused}
+use Rattle.theorems.proofs.Refusals.{objects_refused, programs_refused}
 use Rattle.theorems.proofs.Demand3.{demand3}
 
 -- ---- an answer's number
@@ -92,11 +92,11 @@ law_call_lem s n i lent =
     (λ v. on_read_lem s lent _ (λ P e u. on_law s lent i P e (ltb-false 8192 (length s) t) u (law_numbered n))))
 
 -- the text written reads as the result
-wrote-reads : {s : List ℕ} {o : Outcome} (W : Wrote s o) → read_program (write_program W.result) ≡ got W.result (length (write_program W.result))
-wrote-reads W = programs_read_back W.result (each_use_shrinks W.law W.place W.program W.result (programs_read _ W.program W.e W.reads).well_formed W.applies).well_formed
+wrote_reads : {s : List ℕ} {o : Outcome} (W : Wrote s o) → read_program (write_program W.result) ≡ got W.result (length (write_program W.result))
+wrote_reads W = programs_read_back W.result (each_use_shrinks W.law W.place W.program W.result (programs_read _ W.program W.e W.reads).well_formed W.applies).well_formed
 
-wrote-short : {s : List ℕ} {o : Outcome} (W : Wrote s o) → length (write_program W.result) ≤ 8192
-wrote-short W =
+wrote_short : {s : List ℕ} {o : Outcome} (W : Wrote s o) → length (write_program W.result) ≤ 8192
+wrote_short W =
     let R = programs_read _ W.program W.e W.reads in
     omega (arith, (each_use_shrinks W.law W.place W.program W.result R.well_formed W.applies).no_longer, R.no_longer, W.few)
 
@@ -114,7 +114,7 @@ series P e no_call r h = record { result = P; e = e; reads = r; uses = no_use; f
 series {s} {u} P e (call_then n i lent h t cs) r few =
     let W = law_call_lem s n i lent h in
     let p : W.program ≡ P = got_inj (sym W.reads ∙ r) in
-    let S = series W.result (length (write_program W.result)) cs (ap read_program (sym t ∙ W.text) ∙ wrote-reads W) (subst (λ (v : List ℕ). length v ≤ 8192) (sym (sym t ∙ W.text)) (wrote-short W)) in
+    let S = series W.result (length (write_program W.result)) cs (ap read_program (sym t ∙ W.text) ∙ wrote_reads W) (subst (λ (v : List ℕ). length v ≤ 8192) (sym (sym t ∙ W.text)) (wrote_short W)) in
     record { result = S.result; e = S.e; reads = S.reads; few = S.few; uses = use_then W.law W.place (subst (λ (Q : Prog). apply_law W.law W.place Q ≡ some W.result) p W.applies) S.uses }
 
 -- ---- a run call that reached an object or bottom
@@ -155,7 +155,7 @@ open_run s x b lent h =
     let p4 = pass (ltb 256 b.names) 4 lent _ (omega arith) p3.1 in
     let p5 = pass (other_tables b lent) 5 lent _ (omega arith) p4.1 in
     let p6 = pass_read lent 1 (read_program s) _ (λ n p u. omega (arith, (programs_refused s n p u).high)) p5.1 in
-    let p7 = pass_read lent 2 (read_object x) _ (λ n p u. omega (arith, (objects-refused x n p u).high)) p6.3 in
+    let p7 = pass_read lent 2 (read_object x) _ (λ n p u. omega (arith, (objects_refused x n p u).high)) p6.3 in
     record {
       program = p6.0;
       object = p7.0;
@@ -210,6 +210,6 @@ demand3_on_texts_back s u (call_then {t = t} n i lent h v cs) x b r R =
     let W = law_call_lem s n i lent h in
     let later = demand3_on_texts_back t u cs x b r R in
     let K = later.runs in
-    let q : K.program ≡ W.result = got_inj (sym K.reads_program ∙ ap read_program (sym v ∙ W.text) ∙ wrote-reads W) in
+    let q : K.program ≡ W.result = got_inj (sym K.reads_program ∙ ap read_program (sym v ∙ W.text) ∙ wrote_reads W) in
     let M = (demand3 one W.program W.result (use_then W.law W.place W.applies no_use) K.object later.budgets r K.steps K.cells).1 (subst (λ (Q : Prog). run one Q K.object later.budgets ≡ reaches r K.steps K.cells) q K.answers) in
     record { budgets = M.budgets; runs = record { program = W.program; object = K.object; e = W.e; e' = K.e'; reads_program = W.reads; reads_object = K.reads_object; steps = M.s; cells = M.c; answers = M.answers } }

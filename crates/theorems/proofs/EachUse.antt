@@ -42,12 +42,12 @@ joined_in f g fs r ok =
     let d = dotted_put g fs s.is_form in
     record { parts = omega arith; forms = omega arith; cells = omega arith; bytes = omega arith; are_forms = j.are_forms }
 
-inside-chain : (fs gs : Forms) → PartsShrink 0 fs gs → Shrinks (chain fs) (chain gs)
-inside-chain stop gs r ok = absurd ok.0
-inside-chain (f & stop) gs r ok = absurd ok.0
-inside-chain (f & g & fs) stop r ok = let s = r ok.1 in absurd (omega arith)
-inside-chain (f & g & fs) (a & stop) r ok = let s = r ok.1 in absurd (omega arith)
-inside-chain (f & g & fs) (a & b & gs) r ok =
+inside_chain : (fs gs : Forms) → PartsShrink 0 fs gs → Shrinks (chain fs) (chain gs)
+inside_chain stop gs r ok = absurd ok.0
+inside_chain (f & stop) gs r ok = absurd ok.0
+inside_chain (f & g & fs) stop r ok = let s = r ok.1 in absurd (omega arith)
+inside_chain (f & g & fs) (a & stop) r ok = let s = r ok.1 in absurd (omega arith)
+inside_chain (f & g & fs) (a & b & gs) r ok =
     let s = r ok.1 in
     record { forms = omega arith; cells = omega arith; bytes = omega arith; bracketed = omega arith; is_form = (tt, s.are_forms) }
 
@@ -61,18 +61,18 @@ behind_item f fs gs r ok =
     let s = r ok.1 in
     record { some_left = tt; forms = omega arith; cells = omega arith; bytes = omega arith; commas = omega arith; are_forms = (ok.0, s.are_forms) }
 
-inside-construct : (fs gs : Forms) → ItemsShrink fs gs → Shrinks (construct fs) (construct gs)
-inside-construct fs gs r ok =
+inside_construct : (fs gs : Forms) → ItemsShrink fs gs → Shrinks (construct fs) (construct gs)
+inside_construct fs gs r ok =
     let s = r ok.1 in
     record { forms = omega arith; cells = omega arith; bytes = omega arith; bracketed = omega arith; is_form = (s.some_left, s.are_forms) }
 
-inside-insert : (f g : Form) → Shrinks f g → Shrinks (insert f) (insert g)
-inside-insert f g r ok =
+inside_insert : (f g : Form) → Shrinks f g → Shrinks (insert f) (insert g)
+inside_insert f g r ok =
     let s = r ok in
     record { forms = omega arith; cells = omega arith; bytes = omega arith; bracketed = omega arith; is_form = s.is_form }
 
-inside-apply_all : (f g : Form) → Shrinks f g → Shrinks (apply_all f) (apply_all g)
-inside-apply_all f g r ok =
+inside_apply_all : (f g : Form) → Shrinks f g → Shrinks (apply_all f) (apply_all g)
+inside_apply_all f g r ok =
     let s = r ok in
     record { forms = omega arith; cells = omega arith; bytes = omega arith; bracketed = omega arith; is_form = s.is_form }
 
@@ -81,28 +81,28 @@ inside_bu x f g r ok =
     let s = r ok.0 in
     record { forms = omega arith; cells = omega arith; bytes = omega arith; bracketed = omega arith; is_form = (s.is_form, ok.1) }
 
-inside-test : (g h p q : Form) → Shrinks p q → Shrinks (condition p g h) (condition q g h)
-inside-test g h p q r ok =
+inside_test : (g h p q : Form) → Shrinks p q → Shrinks (condition p g h) (condition q g h)
+inside_test g h p q r ok =
     let s = r ok.0 in
     record { forms = omega arith; cells = omega arith; bytes = omega arith; bracketed = omega arith; is_form = (s.is_form, ok.1, ok.2) }
 
-inside-then : (p h f g : Form) → Shrinks f g → Shrinks (condition p f h) (condition p g h)
-inside-then p h f g r ok =
+inside_then : (p h f g : Form) → Shrinks f g → Shrinks (condition p f h) (condition p g h)
+inside_then p h f g r ok =
     let s = r ok.1 in
     record { forms = omega arith; cells = omega arith; bytes = omega arith; bracketed = omega arith; is_form = (ok.0, s.is_form, ok.2) }
 
-inside-else : (p f g h : Form) → Shrinks g h → Shrinks (condition p f g) (condition p f h)
-inside-else p f g h r ok =
+inside_else : (p f g h : Form) → Shrinks g h → Shrinks (condition p f g) (condition p f h)
+inside_else p f g h r ok =
     let s = r ok.2 in
     record { forms = omega arith; cells = omega arith; bytes = omega arith; bracketed = omega arith; is_form = (ok.0, ok.1, s.is_form) }
 
-inside-while-test : (f p q : Form) → Shrinks p q → Shrinks (while p f) (while q f)
-inside-while-test f p q r ok =
+inside_while_test : (f p q : Form) → Shrinks p q → Shrinks (while p f) (while q f)
+inside_while_test f p q r ok =
     let s = r ok.0 in
     record { forms = omega arith; cells = omega arith; bytes = omega arith; bracketed = omega arith; is_form = (s.is_form, ok.1) }
 
-inside-while-body : (p f g : Form) → Shrinks f g → Shrinks (while p f) (while p g)
-inside-while-body p f g r ok =
+inside_while_body : (p f g : Form) → Shrinks f g → Shrinks (while p f) (while p g)
+inside_while_body p f g r ok =
     let s = r ok.1 in
     record { forms = omega arith; cells = omega arith; bytes = omega arith; bracketed = omega arith; is_form = (ok.0, s.is_form) }
 
@@ -110,19 +110,19 @@ shrinking_passes : Passes Shrinks (PartsShrink 0) ItemsShrink
 shrinking_passes = record {
   part = λ {f} {g} fs r. as_part f g fs r;
   joined = λ {f} {g} fs r. joined_in f g fs r;
-  behind-part = λ f {fs} {gs} r. behind 0 f fs gs r;
-  in_chain_lem = λ {fs} {gs} r. inside-chain fs gs r;
+  behind_part = λ f {fs} {gs} r. behind 0 f fs gs r;
+  in_chain_lem = λ {fs} {gs} r. inside_chain fs gs r;
   item = λ {f} {g} fs r. as_item f g fs r;
   behind_item = λ f {fs} {gs} r. behind_item f fs gs r;
-  in_construct = λ {fs} {gs} r. inside-construct fs gs r;
-  in_insert = λ {f} {g} r. inside-insert f g r;
-  in_apply_all = λ {f} {g} r. inside-apply_all f g r;
+  in_construct = λ {fs} {gs} r. inside_construct fs gs r;
+  in_insert = λ {f} {g} r. inside_insert f g r;
+  in_apply_all = λ {f} {g} r. inside_apply_all f g r;
   in_bu = λ x {f} {g} r. inside_bu x f g r;
-  in_test = λ g h {p} {q} r. inside-test g h p q r;
-  in_then = λ p h {f} {g} r. inside-then p h f g r;
-  in_else = λ p f {g} {h} r. inside-else p f g h r;
-  in_while_test = λ f {p} {q} r. inside-while-test f p q r;
-  in_while_body = λ p {f} {g} r. inside-while-body p f g r;
+  in_test = λ g h {p} {q} r. inside_test g h p q r;
+  in_then = λ p h {f} {g} r. inside_then p h f g r;
+  in_else = λ p f {g} {h} r. inside_else p f g h r;
+  in_while_test = λ f {p} {q} r. inside_while_test f p q r;
+  in_while_body = λ p {f} {g} r. inside_while_body p f g r;
 }
 
 -- at every place

@@ -5,7 +5,7 @@ use lib.IntN.{ℤ, pos, negsuc}
 use borrow.Author.Tests.{eqb-true, eq-eqb}
 use Rattle.language.specs.Objects.{Obj, int, symbol, seq, Objs, nil, ◌::◌, truth}
 use Rattle.language.specs.Meanings.{Looked, same_int, onward, look, look_along, gives}
-use Rattle.language.proofs.Bytes.{same-bytes_is, same-bytes-refl}
+use Rattle.language.proofs.Bytes.{same_bytes_is, same_bytes_refl}
 use Rattle.theorems.specs.Equality.{EqDecides, EqAnswers}
 
 same_int_is : (m n : ℤ) → same_int m n ≡ true → m ≡ n
@@ -14,13 +14,13 @@ same_int_is (pos m) (negsuc n) h = absurd (false≢true h)
 same_int_is (negsuc m) (pos n) h = absurd (false≢true h)
 same_int_is (negsuc m) (negsuc n) h = ap negsuc (eqb-true m n h)
 
-same_int-refl : (m : ℤ) → same_int m m ≡ true
-same_int-refl (pos m) = eq-eqb m m refl
-same_int-refl (negsuc m) = eq-eqb m m refl
+same_int_refl : (m : ℤ) → same_int m m ≡ true
+same_int_refl (pos m) = eq-eqb m m refl
+same_int_refl (negsuc m) = eq-eqb m m refl
 
 -- no difference in the first nor in the rest
-onward-both : (a b : Looked) → (onward a b).same ≡ true → (a.same ≡ true) × (b.same ≡ true)
-onward-both a b h = go a.same refl
+onward_both : (a b : Looked) → (onward a b).same ≡ true → (a.same ≡ true) × (b.same ≡ true)
+onward_both a b h = go a.same refl
   where
     go : (t : Bool) → a.same ≡ t → (a.same ≡ true) × (b.same ≡ true)
     go true e = (e, rw (e, onward) at h)
@@ -35,7 +35,7 @@ mutual
   look_is (int m) (symbol t) h = absurd (false≢true h)
   look_is (int m) (seq ys) h = absurd (false≢true h)
   look_is (symbol s) (int n) h = absurd (false≢true h)
-  look_is (symbol s) (symbol t) h = ap symbol (same-bytes_is s t h)
+  look_is (symbol s) (symbol t) h = ap symbol (same_bytes_is s t h)
   look_is (symbol s) (seq ys) h = absurd (false≢true h)
   look_is (seq xs) (int n) h = absurd (false≢true h)
   look_is (seq xs) (symbol t) h = absurd (false≢true h)
@@ -46,21 +46,21 @@ mutual
   along_is nil (y :: ys) h = absurd (false≢true h)
   along_is (x :: xs) nil h = absurd (false≢true h)
   along_is (x :: xs) (y :: ys) h =
-      let q = onward-both (look x y) (look_along xs ys) h in
+      let q = onward_both (look x y) (look_along xs ys) h in
       ap₂ ◌::◌ (look_is x y q.0) (along_is xs ys q.1)
 
 mutual
-  look-refl : (a : Obj) → (look a a).same ≡ true
-  look-refl (int m) = same_int-refl m
-  look-refl (symbol s) = same-bytes-refl s
-  look-refl (seq xs) = along_refl xs
+  look_refl : (a : Obj) → (look a a).same ≡ true
+  look_refl (int m) = same_int_refl m
+  look_refl (symbol s) = same_bytes_refl s
+  look_refl (seq xs) = along_refl xs
 
   along_refl : (xs : Objs) → (look_along xs xs).same ≡ true
   along_refl nil = refl
-  along_refl (x :: xs) = onward_is (look x x) (look_along xs xs) (look-refl x) (along_refl xs)
+  along_refl (x :: xs) = onward_is (look x x) (look_along xs xs) (look_refl x) (along_refl xs)
 
 pub eq_decides : EqDecides
-eq_decides a b = (look_is a b, λ e. subst (λ (c : Obj). (look a c).same ≡ true) e (look-refl a))
+eq_decides a b = (look_is a b, λ e. subst (λ (c : Obj). (look a c).same ≡ true) e (look_refl a))
 
 pub eq_answers : EqAnswers
 eq_answers e a b = (

@@ -16,14 +16,14 @@ pub count-append : (fs gs : Forms) → count (fs +& gs) ≡ count fs + count gs
 count-append stop gs = omega arith
 count-append (f & fs) gs = omega (arith, count-append fs gs)
 
-pub form-counted : (f : Form) → 1 ≤ forms_in f
-form-counted (word w) = omega arith
-form-counted (name w) = omega arith
-form-counted (chain fs) = omega arith
-form-counted (construct fs) = omega arith
-form-counted (constant x) = omega arith
-form-counted (insert f) = omega arith
-form-counted (apply_all f) = omega arith
-form-counted (bu f x) = omega arith
-form-counted (condition p f g) = omega arith
-form-counted (while p f) = omega arith
+pub form_counted : (f : Form) → 1 ≤ forms_in f
+form_counted (word w) = omega arith
+form_counted (name w) = omega arith
+form_counted (chain fs) = omega arith
+form_counted (construct fs) = omega arith
+form_counted (constant x) = omega arith
+form_counted (insert f) = omega arith
+form_counted (apply_all f) = omega arith
+form_counted (bu f x) = omega arith
+form_counted (condition p f g) = omega arith
+form_counted (while p f) = omega arith

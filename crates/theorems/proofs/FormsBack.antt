@@ -14,17 +14,17 @@ use Rattle.language.specs.Judging.{is_name_byte, judge_part}
 use Rattle.language.specs.Reading.{Got, got, and_then, as_judged, word_at, opens, mark, after_test, after_part, after_parts, after_form, read_form, read_parts, read_forms, read_part, read_obj}
 use Rattle.language.specs.Writing.{write_obj, write_word, bracketed, write_form, write_parts, write_forms, marks_of_obj, bracket_marks, marks_of, marks_of_parts, marks_of_forms}
 use Rattle.language.specs.Accepted.{IsObj, IsForm, AreForms, OneOrMore, TwoOrMore}
-use Rattle.theorems.proofs.Texts.{byte_here, place_here, drop_past, drop_one, span_none, judged_here, mark-here}
-use Rattle.theorems.proofs.Readers.{Reader, Reads, EndsWord, EndsForm, ends-word, suc_of, closed, joined}
+use Rattle.theorems.proofs.Texts.{byte_here, place_here, drop_past, drop_one, span_none, judged_here, mark_here}
+use Rattle.theorems.proofs.Readers.{Reader, Reads, EndsWord, EndsForm, ends_word, suc_of, closed, joined}
 use Rattle.theorems.proofs.ObjectsBack.{obj_back}
-use Rattle.theorems.proofs.WordsBack.{Plain, name_byte_no, name_byte_no_blank, plain_begins, plain_size, word-plain, name-plain}
+use Rattle.theorems.proofs.WordsBack.{Plain, name_byte_no, name_byte_no_blank, plain_begins, plain_size, word_plain, name_plain}
 
 -- ---- what reading does at a place
 
 module _ (s : List ℕ) (at room k : ℕ) where
-  plain-read : (b : ℕ) (l : List ℕ) → drop at s ≡ b ∷ l → is_name_byte b ≡ true → read_part (suc k) s at room ≡ as_judged s at (judge_part (word_at s at))
+  plain_read : (b : ℕ) (l : List ℕ) → drop at s ≡ b ∷ l → is_name_byte b ≡ true → read_part (suc k) s at room ≡ as_judged s at (judge_part (word_at s at))
   unfolding read_part
-  plain-read b l d h =
+  plain_read b l d h =
       rw (
         place_here s at b l d (name_byte_no_blank b h),
         byte_here s at b l d,
@@ -37,21 +37,21 @@ module _ (s : List ℕ) (at room k : ℕ) where
       )
 
   module _ (l : List ℕ) (opened : 0 < room) where
-    construct-read : drop at s ≡ 91 ∷ l → read_part (suc k) s at room ≡ and_then (read_forms k s (at + 1) (room - 1)) (λ fs e. got (construct fs) e)
+    construct_read : drop at s ≡ 91 ∷ l → read_part (suc k) s at room ≡ and_then (read_forms k s (at + 1) (room - 1)) (λ fs e. got (construct fs) e)
     unfolding read_part opens
-    construct-read d = rw (place_here s at 91 l d refl, byte_here s at 91 l d, ne_eqb room 0 (omega arith))
+    construct_read d = rw (place_here s at 91 l d refl, byte_here s at 91 l d, ne_eqb room 0 (omega arith))
 
-    constant-read : drop at s ≡ 37 ∷ l → read_part (suc k) s at room ≡ and_then (read_obj k s (at + 1) (room - 1)) (λ x e. got (constant x) e)
+    constant_read : drop at s ≡ 37 ∷ l → read_part (suc k) s at room ≡ and_then (read_obj k s (at + 1) (room - 1)) (λ x e. got (constant x) e)
     unfolding read_part opens
-    constant-read d = rw (place_here s at 37 l d refl, byte_here s at 37 l d, ne_eqb room 0 (omega arith))
+    constant_read d = rw (place_here s at 37 l d refl, byte_here s at 37 l d, ne_eqb room 0 (omega arith))
 
-    insert-read : drop at s ≡ 47 ∷ l → read_part (suc k) s at room ≡ and_then (read_part k s (at + 1) (room - 1)) (λ f e. got (insert f) e)
+    insert_read : drop at s ≡ 47 ∷ l → read_part (suc k) s at room ≡ and_then (read_part k s (at + 1) (room - 1)) (λ f e. got (insert f) e)
     unfolding read_part opens
-    insert-read d = rw (place_here s at 47 l d refl, byte_here s at 47 l d, ne_eqb room 0 (omega arith))
+    insert_read d = rw (place_here s at 47 l d refl, byte_here s at 47 l d, ne_eqb room 0 (omega arith))
 
-    apply_all-read : drop at s ≡ 64 ∷ l → read_part (suc k) s at room ≡ and_then (read_part k s (at + 1) (room - 1)) (λ f e. got (apply_all f) e)
+    apply_all_read : drop at s ≡ 64 ∷ l → read_part (suc k) s at room ≡ and_then (read_part k s (at + 1) (room - 1)) (λ f e. got (apply_all f) e)
     unfolding read_part opens
-    apply_all-read d = rw (place_here s at 64 l d refl, byte_here s at 64 l d, ne_eqb room 0 (omega arith))
+    apply_all_read d = rw (place_here s at 64 l d refl, byte_here s at 64 l d, ne_eqb room 0 (omega arith))
 
     bu_read : drop at s ≡ 123 ∷ l → read_part (suc k) s at room ≡
         and_then (read_part k s (at + 1) (room - 1)) (λ f e. mark 44 s e (λ a. and_then (read_obj k s a (room - 1)) (λ x e. mark 125 s e (λ a. got (bu f x) a))))
@@ -63,9 +63,9 @@ module _ (s : List ℕ) (at room k : ℕ) where
     round_read d = rw (place_here s at 40 l d refl, byte_here s at 40 l d, ne_eqb room 0 (omega arith))
 
 module _ (s : List ℕ) (p : Form) (e : ℕ) (form : ℕ → Got Form) (l : List ℕ) where
-  close-read : drop e s ≡ 41 ∷ l → after_test s p e form ≡ got p (e + 1)
+  close_read : drop e s ≡ 41 ∷ l → after_test s p e form ≡ got p (e + 1)
   unfolding after_test
-  close-read d = rw (place_here s e 41 l d refl, byte_here s e 41 l d)
+  close_read d = rw (place_here s e 41 l d refl, byte_here s e 41 l d)
 
   loop_read : drop e s ≡ 63 ∷ l → after_test s p e form ≡ and_then (form (e + 1)) (λ f e. mark 41 s e (λ a. got (while p f) a))
   unfolding after_test
@@ -82,26 +82,26 @@ module _ (f : Form) (s : List ℕ) (at room k e : ℕ) (l : List ℕ) where
     unfolding read_form after_part
     first_part d = rw (read, place_here s e 46 l d refl, byte_here s e 46 l d)
 
-    later-part : drop e s ≡ 46 ∷ l → read_parts (suc k) s at room ≡ and_then (read_parts k s (e + 1) room) (λ fs e. got (f & fs) e)
+    later_part : drop e s ≡ 46 ∷ l → read_parts (suc k) s at room ≡ and_then (read_parts k s (e + 1) room) (λ fs e. got (f & fs) e)
     unfolding read_parts after_parts
-    later-part d = rw (read, place_here s e 46 l d refl, byte_here s e 46 l d)
+    later_part d = rw (read, place_here s e 46 l d refl, byte_here s e 46 l d)
 
     only_part : (c : ℕ) → drop e s ≡ c ∷ l → EndsForm (c ∷ l) → read_form (suc k) s at room ≡ got f e
     unfolding read_form after_part
     only_part c d h = rw (read, place_here s e c l d h.1, byte_here s e c l d, h.2)
 
-    last-part : (c : ℕ) → drop e s ≡ c ∷ l → EndsForm (c ∷ l) → read_parts (suc k) s at room ≡ got (f & stop) e
+    last_part : (c : ℕ) → drop e s ≡ c ∷ l → EndsForm (c ∷ l) → read_parts (suc k) s at room ≡ got (f & stop) e
     unfolding read_parts after_parts
-    last-part c d h = rw (read, place_here s e c l d h.1, byte_here s e c l d, h.2)
+    last_part c d h = rw (read, place_here s e c l d h.1, byte_here s e c l d, h.2)
 
   module _ (read : read_form k s at room ≡ got f e) where
-    last-form : drop e s ≡ 93 ∷ l → read_forms (suc k) s at room ≡ got (f & stop) (e + 1)
+    last_form : drop e s ≡ 93 ∷ l → read_forms (suc k) s at room ≡ got (f & stop) (e + 1)
     unfolding read_forms after_form
-    last-form d = rw (read, place_here s e 93 l d refl, byte_here s e 93 l d)
+    last_form d = rw (read, place_here s e 93 l d refl, byte_here s e 93 l d)
 
-    later-form : drop e s ≡ 44 ∷ l → read_forms (suc k) s at room ≡ and_then (read_forms k s (e + 1) room) (λ fs e. got (f & fs) e)
+    later_form : drop e s ≡ 44 ∷ l → read_forms (suc k) s at room ≡ and_then (read_forms k s (e + 1) room) (λ fs e. got (f & fs) e)
     unfolding read_forms after_form
-    later-form d = rw (read, place_here s e 44 l d refl, byte_here s e 44 l d)
+    later_form d = rw (read, place_here s e 44 l d refl, byte_here s e 44 l d)
 
 -- ---- parts
 
@@ -117,11 +117,11 @@ ReadsParts fs = Reads read_parts EndsForm 1 (write_parts fs) (marks_of_parts fs)
 abbrev ReadsForms : Forms → Type 0
 ReadsForms fs = Reads read_forms EndsWord 2 (write_forms fs) (marks_of_forms fs) fs
 
-plain-part : (w : List ℕ) (f : Form) → Plain w f → ReadsPart w 0 f
-plain-part w f g s at room k l d e m n =
+plain_part : (w : List ℕ) (f : Form) → Plain w f → ReadsPart w 0 f
+plain_part w f g s at room k l d e m n =
     let i = suc_of k (omega arith) in
     let c = plain_begins w f g in
-    rw (i.1, plain-read s at room i.0 c.0 (c.1 ++ l) (rw c.2 at d) c.3) (judged_here judge_part f s at w l d (plain_size s at l w f e g d) g.judged)
+    rw (i.1, plain_read s at room i.0 c.0 (c.1 ++ l) (rw c.2 at d) c.3) (judged_here judge_part f s at w l d (plain_size s at l w f e g d) g.judged)
 
 -- a mark and what `read` reads behind it
 prefix : {A : Type 0} (c : ℕ) (read : Reader A) (build : A → Form) (n : ℕ) (w : List ℕ) (m : ℕ) (a : A) → n ≤ 2 →
@@ -154,10 +154,10 @@ bu_part w m f x r h s at room k l d e n b =
       bu_read s at room i.0 (w ++ 44 ∷ (v ++ 125 ∷ l)) (omega arith) d₀,
       g,
       and_then,
-      mark-here 44 s e₁ (λ a. and_then (read_obj i.0 s a (room - 1)) (λ x e. mark 125 s e (λ a. got (bu f x) a))) (v ++ 125 ∷ l) d₂ refl,
+      mark_here 44 s e₁ (λ a. and_then (read_obj i.0 s a (room - 1)) (λ x e. mark 125 s e (λ a. got (bu f x) a))) (v ++ 125 ∷ l) d₂ refl,
       o,
       and_then,
-      mark-here 125 s e₂ (λ a. got (bu f x) a) l d₄ refl,
+      mark_here 125 s e₂ (λ a. got (bu f x) a) l d₄ refl,
       y,
     )
 
@@ -174,13 +174,13 @@ bracket_part w m f r s at room k l d e n b =
       round_read s at room i.0 (w ++ 41 ∷ l) (omega arith) d₀,
       g,
       and_then,
-      close-read s f (at + 1 + length w) (λ a. read_form i.0 s a (room - 1)) l (drop_past s (at + 1) w (41 ∷ l) d₁),
+      close_read s f (at + 1 + length w) (λ a. read_form i.0 s a (room - 1)) l (drop_past s (at + 1) w (41 ∷ l) d₁),
       y,
     )
 
-while-part : (w : List ℕ) (m : ℕ) (p : Form) (w' : List ℕ) (m' : ℕ) (f : Form) →
+while_part : (w : List ℕ) (m : ℕ) (p : Form) (w' : List ℕ) (m' : ℕ) (f : Form) →
     ReadsForm w m p → ReadsForm w' m' f → ReadsPart (40 ∷ (w ++ 63 ∷ (w' ++ 41 ∷ []))) (suc (max m m')) (while p f)
-while-part w m p w' m' f r r' s at room k l d e n b =
+while_part w m p w' m' f r r' s at room k l d e n b =
     let i = suc_of k (omega arith) in
     let t = length-append w (63 ∷ (w' ++ 41 ∷ [])) in
     let u = length-append w' (41 ∷ []) in
@@ -202,13 +202,13 @@ while-part w m p w' m' f r r' s at room k l d e n b =
       loop_read s p e₁ (λ a. read_form i.0 s a (room - 1)) (w' ++ 41 ∷ l) d₂,
       g',
       and_then,
-      mark-here 41 s e₂ (λ a. got (while p f) a) l d₄ refl,
+      mark_here 41 s e₂ (λ a. got (while p f) a) l d₄ refl,
       y,
     )
 
-condition-part : (w : List ℕ) (m : ℕ) (p : Form) (w' : List ℕ) (m' : ℕ) (f : Form) (w'' : List ℕ) (m'' : ℕ) (g : Form) →
+condition_part : (w : List ℕ) (m : ℕ) (p : Form) (w' : List ℕ) (m' : ℕ) (f : Form) (w'' : List ℕ) (m'' : ℕ) (g : Form) →
     ReadsForm w m p → ReadsForm w' m' f → ReadsForm w'' m'' g → ReadsPart (40 ∷ (w ++ 45 ∷ 62 ∷ (w' ++ 59 ∷ (w'' ++ 41 ∷ [])))) (suc (max m (max m' m''))) (condition p f g)
-condition-part w m p w' m' f w'' m'' g r r' r'' s at room k l d e n b =
+condition_part w m p w' m' f w'' m'' g r r' r'' s at room k l d e n b =
     let i = suc_of k (omega arith) in
     let l₃ = w'' ++ 41 ∷ l in
     let l₂ = w' ++ 59 ∷ l₃ in
@@ -237,10 +237,10 @@ condition-part w m p w' m' f w'' m'' g r r' r'' s at room k l d e n b =
       arrow_read s p e₁ (λ a. read_form i.0 s a (room - 1)) l₂ d₂,
       gf,
       and_then,
-      mark-here 59 s e₂ (λ a. and_then (read_form i.0 s a (room - 1)) (λ g e. mark 41 s e (λ a. got (condition p f g) a))) l₃ d₄ refl,
+      mark_here 59 s e₂ (λ a. and_then (read_form i.0 s a (room - 1)) (λ g e. mark 41 s e (λ a. got (condition p f g) a))) l₃ d₄ refl,
       gg,
       and_then,
-      mark-here 41 s e₃ (λ a. got (condition p f g) a) l d₆ refl,
+      mark_here 41 s e₃ (λ a. got (condition p f g) a) l d₆ refl,
       y,
     )
 
@@ -261,21 +261,21 @@ ended : {C : Type 0} (read : Reader C) (build : Form → C) (w : List ℕ) (m : 
 ended read build w m f step r s at room k [] d h n b = absurd h
 ended read build w m f step r s at room k (c ∷ l) d h n b =
     let i = suc_of k (omega arith) in
-    rw i.1 (step s at room i.0 (at + length w) l (r s at room i.0 (c ∷ l) d (ends-word (c ∷ l) h) n (omega (arith, i.1))) c (drop_past s at w (c ∷ l) d) h)
+    rw i.1 (step s at room i.0 (at + length w) l (r s at room i.0 (c ∷ l) d (ends_word (c ∷ l) h) n (omega (arith, i.1))) c (drop_past s at w (c ∷ l) d) h)
 
 -- a form that isn't a chain is written alike as a part
-from-part : (f : Form) → is_chain f ≡ false → ReadsPart (write_form f) (marks_of f) f → Back f
-from-part f h r = record { part = rw h r; form = ended read_form (λ f. f) (write_form f) (marks_of f) f (only_part f) r }
+from_part : (f : Form) → is_chain f ≡ false → ReadsPart (write_form f) (marks_of f) f → Back f
+from_part f h r = record { part = rw h r; form = ended read_form (λ f. f) (write_form f) (marks_of f) f (only_part f) r }
 
 parts_back : (f : Form) (fs : Forms) → AllBack (f & fs) → ReadsParts (f & fs)
 unfolding write_parts
 parts_back f stop b =
     let w = bracketed f (write_form f) in
     let m = bracket_marks f (marks_of f) in
-    rw (append-nil w, max-zero m) (ended read_parts (λ f. f & stop) w m f (last-part f) b.0.part)
+    rw (append-nil w, max-zero m) (ended read_parts (λ f. f & stop) w m f (last_part f) b.0.part)
 parts_back f (g & fs) b =
     joined 46 read_part read_parts read_parts ◌&◌ EndsWord EndsForm 0 (bracketed f (write_form f)) (bracket_marks f (marks_of f)) f
-    (write_parts (g & fs)) (marks_of_parts (g & fs)) (g & fs) (λ l. span_none is_word_byte 46 l refl) (later-part f) b.0.part (parts_back g fs b.1)
+    (write_parts (g & fs)) (marks_of_parts (g & fs)) (g & fs) (λ l. span_none is_word_byte 46 l refl) (later_part f) b.0.part (parts_back g fs b.1)
 
 chain_back : (fs : Forms) → TwoOrMore fs → AllBack fs → ReadsForm (write_parts fs) (marks_of_parts fs) (chain fs)
 unfolding write_parts
@@ -287,10 +287,10 @@ chain_back (f & (g & fs)) h b =
 
 forms_back : (f : Form) (fs : Forms) → AllBack (f & fs) → ReadsForms (f & fs)
 unfolding write_forms
-forms_back f stop b = closed 93 read_form read_forms (λ f. f & stop) EndsForm EndsWord 1 (write_form f) (marks_of f) f (λ l. (refl, refl, refl)) (last-form f) b.0.form
+forms_back f stop b = closed 93 read_form read_forms (λ f. f & stop) EndsForm EndsWord 1 (write_form f) (marks_of f) f (λ l. (refl, refl, refl)) (last_form f) b.0.form
 forms_back f (g & fs) b =
     joined 44 read_form read_forms read_forms ◌&◌ EndsForm EndsWord 1 (write_form f) (marks_of f) f (write_forms (g & fs)) (marks_of_forms (g & fs)) (g & fs)
-    (λ l. (refl, refl, refl)) (later-form f) b.0.form (forms_back g fs b.1)
+    (λ l. (refl, refl, refl)) (later_form f) b.0.form (forms_back g fs b.1)
 
 construct_back : (fs : Forms) → OneOrMore fs → AllBack fs → ReadsForms fs
 construct_back stop h b = absurd h
@@ -300,24 +300,24 @@ mutual
   unfolding write_form
 
   pub form_back : (f : Form) → IsForm f → Back f
-  form_back (word w) h = from-part (word w) refl (plain-part (write_word w) (word w) (word-plain w h))
-  form_back (name w) h = from-part (name w) refl (plain-part w (name w) (name-plain w h))
+  form_back (word w) h = from_part (word w) refl (plain_part (write_word w) (word w) (word_plain w h))
+  form_back (name w) h = from_part (name w) refl (plain_part w (name w) (name_plain w h))
   form_back (chain fs) h =
       let r = chain_back fs h.0 (all_back fs h.1) in
       record { part = bracket_part (write_parts fs) (marks_of_parts fs) (chain fs) r; form = r }
   form_back (construct fs) h =
-      from-part (construct fs) refl (prefix 91 read_forms construct 2 (write_forms fs) (marks_of_forms fs) fs (omega arith) construct-read (construct_back fs h.0 (all_back fs h.1)))
-  form_back (constant x) h = from-part (constant x) refl (prefix 37 read_obj constant 0 (write_obj x) (marks_of_obj x) x (omega arith) constant-read (obj_back x h))
+      from_part (construct fs) refl (prefix 91 read_forms construct 2 (write_forms fs) (marks_of_forms fs) fs (omega arith) construct_read (construct_back fs h.0 (all_back fs h.1)))
+  form_back (constant x) h = from_part (constant x) refl (prefix 37 read_obj constant 0 (write_obj x) (marks_of_obj x) x (omega arith) constant_read (obj_back x h))
   form_back (insert f) h =
-      from-part (insert f) refl (prefix 47 read_part insert 0 (bracketed f (write_form f)) (bracket_marks f (marks_of f)) f (omega arith) insert-read (form_back f h).part)
+      from_part (insert f) refl (prefix 47 read_part insert 0 (bracketed f (write_form f)) (bracket_marks f (marks_of f)) f (omega arith) insert_read (form_back f h).part)
   form_back (apply_all f) h =
-      from-part (apply_all f) refl (prefix 64 read_part apply_all 0 (bracketed f (write_form f)) (bracket_marks f (marks_of f)) f (omega arith) apply_all-read (form_back f h).part)
-  form_back (bu f x) h = from-part (bu f x) refl (bu_part (bracketed f (write_form f)) (bracket_marks f (marks_of f)) f x (form_back f h.0).part h.1)
+      from_part (apply_all f) refl (prefix 64 read_part apply_all 0 (bracketed f (write_form f)) (bracket_marks f (marks_of f)) f (omega arith) apply_all_read (form_back f h).part)
+  form_back (bu f x) h = from_part (bu f x) refl (bu_part (bracketed f (write_form f)) (bracket_marks f (marks_of f)) f x (form_back f h.0).part h.1)
   form_back (condition p f g) h =
-      from-part (condition p f g) refl
-      (condition-part (write_form p) (marks_of p) p (write_form f) (marks_of f) f (write_form g) (marks_of g) g (form_back p h.0).form (form_back f h.1).form (form_back g h.2).form)
+      from_part (condition p f g) refl
+      (condition_part (write_form p) (marks_of p) p (write_form f) (marks_of f) f (write_form g) (marks_of g) g (form_back p h.0).form (form_back f h.1).form (form_back g h.2).form)
   form_back (while p f) h =
-      from-part (while p f) refl (while-part (write_form p) (marks_of p) p (write_form f) (marks_of f) f (form_back p h.0).form (form_back f h.1).form)
+      from_part (while p f) refl (while_part (write_form p) (marks_of p) p (write_form f) (marks_of f) f (form_back p h.0).form (form_back f h.1).form)
 
   all_back : (fs : Forms) → AreForms fs → AllBack fs
   all_back stop h = tt

@@ -7,9 +7,9 @@ use Rattle.language.specs.Words.{Op}
 use Rattle.language.specs.Forms.{Word, op, Form, word, name, chain, construct, constant, insert, apply_all, bu, condition, while, Forms, stop, ◌&◌, Prog, is_among}
 use Rattle.language.specs.Numbers.{Edition}
 use Rattle.language.specs.Laws.{harmless_words, harmless, all_harmless}
-use Rattle.theorems.proofs.Ends.{just, items, object, bottom, Ends, word-object, construct-object, constant_in, items_stop, items_bottom, items_late, items_go}
+use Rattle.theorems.proofs.Ends.{just, items, object, bottom, Ends, word_object, construct_object, constant_in, items_stop, items_bottom, items_late, items_go}
 use Rattle.theorems.proofs.Determined.{det}
-use Rattle.theorems.proofs.Implies.{object-bottom}
+use Rattle.theorems.proofs.Implies.{object_bottom}
 
 pub and_both : (a b : Bool) → (a && b) ≡ true → (a ≡ true) × (b ≡ true)
 and_both true b h = (refl, h)
@@ -32,9 +32,9 @@ module _ (e : Edition) (Q : Prog) where
     pub ends : Ends e Q d (items fs x) (object (seq vs)) s c
 
   calm_op : (o : Op) (x : Obj) → is_among (op o) harmless_words ≡ true → Calm (word (op o)) x
-  calm_op Op.id x h = record { v = _; d = _; s = _; c = _; ends = word-object refl }
-  calm_op Op.atom x h = record { v = _; d = _; s = _; c = _; ends = word-object refl }
-  calm_op Op.null x h = record { v = _; d = _; s = _; c = _; ends = word-object refl }
+  calm_op Op.id x h = record { v = _; d = _; s = _; c = _; ends = word_object refl }
+  calm_op Op.atom x h = record { v = _; d = _; s = _; c = _; ends = word_object refl }
+  calm_op Op.null x h = record { v = _; d = _; s = _; c = _; ends = word_object refl }
   calm_op Op.tl x h = absurd (false≢true h)
   calm_op Op.tlr x h = absurd (false≢true h)
   calm_op Op.eq x h = absurd (false≢true h)
@@ -63,7 +63,7 @@ module _ (e : Edition) (Q : Prog) where
     calm (word (op o)) x h = calm_op o x h
     calm (name w) x h = absurd (false≢true h)
     calm (chain fs) x h = absurd (false≢true h)
-    calm (construct fs) x h = let C = calms fs x h in record { v = seq C.vs; d = _; s = _; c = _; ends = construct-object C.ends }
+    calm (construct fs) x h = let C = calms fs x h in record { v = seq C.vs; d = _; s = _; c = _; ends = construct_object C.ends }
     calm (constant y) x h = record { v = y; d = _; s = _; c = _; ends = constant_in }
     calm (insert f) x h = absurd (false≢true h)
     calm (apply_all f) x h = absurd (false≢true h)
@@ -80,7 +80,7 @@ module _ (e : Edition) (Q : Prog) where
         record { vs = C.v :: Cs.vs; d = _; s = _; c = _; ends = items_go C.ends Cs.ends }
 
   pub no_bottom : {X : Type 0} {d : ℕ} {f : Form} {x : Obj} {s c : ℕ} → harmless f ≡ true → Ends e Q d (just f x) bottom s c → X
-  no_bottom {f = f} {x = x} h D = object-bottom e Q (det (calm f x h).ends D)
+  no_bottom {f = f} {x = x} h D = object_bottom e Q (det (calm f x h).ends D)
 
   pub no_bottoms : {X : Type 0} {d : ℕ} {x : Obj} {s c : ℕ} (fs : Forms) → all_harmless fs ≡ true → Ends e Q d (items fs x) bottom s c → X
   no_bottoms stop h x = elim x [ ]

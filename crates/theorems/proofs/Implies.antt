@@ -2,11 +2,11 @@
 use Prim.Native.Nat.{ℕ, suc, ◌≤◌}
 use mathlib.Core.Path.{◌≡◌, sym, subst}
 use native.Mathlib.Omega.{arith}
-use Rattle.language.specs.Objects.{Obj, Truth, isT, isF, neither}
+use Rattle.language.specs.Objects.{Obj, Truth, is_T, is_F, neither}
 use Rattle.language.specs.Forms.{Word, Form, word, chain, construct, insert, apply_all, bu, condition, while, Forms, ◌&◌, Prog}
 use Rattle.language.specs.Numbers.{Edition}
 use Rattle.language.specs.Meanings.{WordAnswer, falls, gives, meaning}
-use Rattle.theorems.proofs.Ends.{Job, just, parts, items, Result, object, bottom, Ends, word-bottom, word-object}
+use Rattle.theorems.proofs.Ends.{Job, just, parts, items, Result, object, bottom, Ends, word_bottom, word_object}
 use Rattle.theorems.proofs.Congruence.{Less, Less-closed, Any, Any-closed, Better, Sub, sub_refl, sub_trans, parts_head, parts_tail, chain-sub, items_head, items_tail, construct-sub, insert-sub, apply_all-sub, bu_sub, condition-sub, while-sub}
 
 module _ (e : Edition) (Q : Prog) where
@@ -39,20 +39,20 @@ module _ (e : Edition) (Q : Prog) where
     w_object : {s c : ℕ} {v : Obj} → WordEnds (gives s c v) 0 (object v) (suc s) c
 
   pub word_inv : {d : ℕ} {w : Word} {x : Obj} {r : Result} {s c : ℕ} → Ends e Q d (just (word w) x) r s c → WordEnds (meaning e w x) d r s c
-  word_inv (word-bottom h) = subst (λ (a : WordAnswer). WordEnds a 0 bottom 1 0) (sym h) w_bottom
-  word_inv (word-object {v = v} {s = s} {c = c} h) = subst (λ (a : WordAnswer). WordEnds a 0 (object v) (suc s) c) (sym h) w_object
+  word_inv (word_bottom h) = subst (λ (a : WordAnswer). WordEnds a 0 bottom 1 0) (sym h) w_bottom
+  word_inv (word_object {v = v} {s = s} {c = c} h) = subst (λ (a : WordAnswer). WordEnds a 0 (object v) (suc s) c) (sym h) w_object
 
   -- An object is not bottom, and T, F and neither are three.
-  pub object-bottom : {X : Type 0} {v : Obj} → object v ≡ bottom → X
-  object-bottom {v = v} h = let z : ◌≡◌ {A = ℕ} 0 1 = cc in absurd (omega arith)
+  pub object_bottom : {X : Type 0} {v : Obj} → object v ≡ bottom → X
+  object_bottom {v = v} h = let z : ◌≡◌ {A = ℕ} 0 1 = cc in absurd (omega arith)
 
-  pub T_F : {X : Type 0} {t : Truth} → t ≡ isT → t ≡ isF → X
+  pub T_F : {X : Type 0} {t : Truth} → t ≡ is_T → t ≡ is_F → X
   T_F p q = let z : ◌≡◌ {A = ℕ} 0 1 = cc in absurd (omega arith)
 
-  pub T_no : {X : Type 0} {t : Truth} → t ≡ isT → t ≡ neither → X
+  pub T_no : {X : Type 0} {t : Truth} → t ≡ is_T → t ≡ neither → X
   T_no p q = let z : ◌≡◌ {A = ℕ} 0 1 = cc in absurd (omega arith)
 
-  pub F_no : {X : Type 0} {t : Truth} → t ≡ isF → t ≡ neither → X
+  pub F_no : {X : Type 0} {t : Truth} → t ≡ is_F → t ≡ neither → X
   F_no p q = let z : ◌≡◌ {A = ℕ} 0 1 = cc in absurd (omega arith)
 
   pub same_object : {u v : Obj} → object u ≡ object v → u ≡ v

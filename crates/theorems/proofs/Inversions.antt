@@ -14,8 +14,8 @@ use Rattle.language.specs.Laws.{on_chain, on_construct, on_constant, on_conditio
 pub some_inj : {A : Type 0} {a b : A} → some a ≡ some b → a ≡ b
 some_inj h = cc
 
-pub none-some : {A X : Type 0} {a : A} → Path (Option A) none (some a) → X
-none-some h = let z : ◌≡◌ {A = ℕ} 0 1 = cc in absurd (omega arith)
+pub none_some : {A X : Type 0} {a : A} → Path (Option A) none (some a) → X
+none_some h = let z : ◌≡◌ {A = ℕ} 0 1 = cc in absurd (omega arith)
 
 -- a form made of one thing, with which k gives z
 pub record Made {A B : Type 0} (make : B → Form) (f : Form) (k : B → Option A) (z : A) : Type 0 where
@@ -23,41 +23,41 @@ pub record Made {A B : Type 0} (make : B → Form) (f : Form) (k : B → Option 
   pub is : f ≡ make of
   pub gives : k of ≡ some z
 
-pub chain-made : {A : Type 0} (f : Form) (k : Forms → Option A) (z : A) → on_chain f k ≡ some z → Made chain f k z
-chain-made (word w) k z h = none-some h
-chain-made (name w) k z h = none-some h
-chain-made (chain fs) k z h = record { of = fs; is = refl; gives = h }
-chain-made (construct fs) k z h = none-some h
-chain-made (constant x) k z h = none-some h
-chain-made (insert f) k z h = none-some h
-chain-made (apply_all f) k z h = none-some h
-chain-made (bu f x) k z h = none-some h
-chain-made (condition p f g) k z h = none-some h
-chain-made (while p f) k z h = none-some h
+pub chain_made : {A : Type 0} (f : Form) (k : Forms → Option A) (z : A) → on_chain f k ≡ some z → Made chain f k z
+chain_made (word w) k z h = none_some h
+chain_made (name w) k z h = none_some h
+chain_made (chain fs) k z h = record { of = fs; is = refl; gives = h }
+chain_made (construct fs) k z h = none_some h
+chain_made (constant x) k z h = none_some h
+chain_made (insert f) k z h = none_some h
+chain_made (apply_all f) k z h = none_some h
+chain_made (bu f x) k z h = none_some h
+chain_made (condition p f g) k z h = none_some h
+chain_made (while p f) k z h = none_some h
 
-pub construct-made : {A : Type 0} (f : Form) (k : Forms → Option A) (z : A) → on_construct f k ≡ some z → Made construct f k z
-construct-made (word w) k z h = none-some h
-construct-made (name w) k z h = none-some h
-construct-made (chain fs) k z h = none-some h
-construct-made (construct fs) k z h = record { of = fs; is = refl; gives = h }
-construct-made (constant x) k z h = none-some h
-construct-made (insert f) k z h = none-some h
-construct-made (apply_all f) k z h = none-some h
-construct-made (bu f x) k z h = none-some h
-construct-made (condition p f g) k z h = none-some h
-construct-made (while p f) k z h = none-some h
+pub construct_made : {A : Type 0} (f : Form) (k : Forms → Option A) (z : A) → on_construct f k ≡ some z → Made construct f k z
+construct_made (word w) k z h = none_some h
+construct_made (name w) k z h = none_some h
+construct_made (chain fs) k z h = none_some h
+construct_made (construct fs) k z h = record { of = fs; is = refl; gives = h }
+construct_made (constant x) k z h = none_some h
+construct_made (insert f) k z h = none_some h
+construct_made (apply_all f) k z h = none_some h
+construct_made (bu f x) k z h = none_some h
+construct_made (condition p f g) k z h = none_some h
+construct_made (while p f) k z h = none_some h
 
-pub constant-made : {A : Type 0} (f : Form) (k : Obj → Option A) (z : A) → on_constant f k ≡ some z → Made constant f k z
-constant-made (word w) k z h = none-some h
-constant-made (name w) k z h = none-some h
-constant-made (chain fs) k z h = none-some h
-constant-made (construct fs) k z h = none-some h
-constant-made (constant x) k z h = record { of = x; is = refl; gives = h }
-constant-made (insert f) k z h = none-some h
-constant-made (apply_all f) k z h = none-some h
-constant-made (bu f x) k z h = none-some h
-constant-made (condition p f g) k z h = none-some h
-constant-made (while p f) k z h = none-some h
+pub constant_made : {A : Type 0} (f : Form) (k : Obj → Option A) (z : A) → on_constant f k ≡ some z → Made constant f k z
+constant_made (word w) k z h = none_some h
+constant_made (name w) k z h = none_some h
+constant_made (chain fs) k z h = none_some h
+constant_made (construct fs) k z h = none_some h
+constant_made (constant x) k z h = record { of = x; is = refl; gives = h }
+constant_made (insert f) k z h = none_some h
+constant_made (apply_all f) k z h = none_some h
+constant_made (bu f x) k z h = none_some h
+constant_made (condition p f g) k z h = none_some h
+constant_made (while p f) k z h = none_some h
 
 pub record MadeCondition {A : Type 0} (c : Form) (k : Form → Form → Form → Option A) (z : A) : Type 0 where
   pub p : Form
@@ -66,17 +66,17 @@ pub record MadeCondition {A : Type 0} (c : Form) (k : Form → Form → Form →
   pub is : c ≡ condition p f g
   pub gives : k p f g ≡ some z
 
-pub condition-made : {A : Type 0} (c : Form) (k : Form → Form → Form → Option A) (z : A) → on_condition c k ≡ some z → MadeCondition c k z
-condition-made (word w) k z h = none-some h
-condition-made (name w) k z h = none-some h
-condition-made (chain fs) k z h = none-some h
-condition-made (construct fs) k z h = none-some h
-condition-made (constant x) k z h = none-some h
-condition-made (insert f) k z h = none-some h
-condition-made (apply_all f) k z h = none-some h
-condition-made (bu f x) k z h = none-some h
-condition-made (condition p f g) k z h = record { p = p; f = f; g = g; is = refl; gives = h }
-condition-made (while p f) k z h = none-some h
+pub condition_made : {A : Type 0} (c : Form) (k : Form → Form → Form → Option A) (z : A) → on_condition c k ≡ some z → MadeCondition c k z
+condition_made (word w) k z h = none_some h
+condition_made (name w) k z h = none_some h
+condition_made (chain fs) k z h = none_some h
+condition_made (construct fs) k z h = none_some h
+condition_made (constant x) k z h = none_some h
+condition_made (insert f) k z h = none_some h
+condition_made (apply_all f) k z h = none_some h
+condition_made (bu f x) k z h = none_some h
+condition_made (condition p f g) k z h = record { p = p; f = f; g = g; is = refl; gives = h }
+condition_made (while p f) k z h = none_some h
 
 -- a selector picks the object that has so many before it
 pub record MadeSelector {A : Type 0} (f : Form) (k : (ℕ → Option ℕ) → Option A) (z : A) : Type 0 where
@@ -89,16 +89,16 @@ pub record MadeSelector {A : Type 0} (f : Form) (k : (ℕ → Option ℕ) → Op
 pub selector_made : {A : Type 0} (f : Form) (k : (ℕ → Option ℕ) → Option A) (z : A) → on_selector f k ≡ some z → MadeSelector f k z
 selector_made (word (select i)) k z h = record { selector = select i; before = _; is = refl; picks = λ e xs. refl; gives = h }
 selector_made (word (select_right i)) k z h = record { selector = select_right i; before = _; is = refl; picks = λ e xs. refl; gives = h }
-selector_made (word (op o)) k z h = none-some h
-selector_made (name w) k z h = none-some h
-selector_made (chain fs) k z h = none-some h
-selector_made (construct fs) k z h = none-some h
-selector_made (constant x) k z h = none-some h
-selector_made (insert f) k z h = none-some h
-selector_made (apply_all f) k z h = none-some h
-selector_made (bu f x) k z h = none-some h
-selector_made (condition p f g) k z h = none-some h
-selector_made (while p f) k z h = none-some h
+selector_made (word (op o)) k z h = none_some h
+selector_made (name w) k z h = none_some h
+selector_made (chain fs) k z h = none_some h
+selector_made (construct fs) k z h = none_some h
+selector_made (constant x) k z h = none_some h
+selector_made (insert f) k z h = none_some h
+selector_made (apply_all f) k z h = none_some h
+selector_made (bu f x) k z h = none_some h
+selector_made (condition p f g) k z h = none_some h
+selector_made (while p f) k z h = none_some h
 
 -- exactly two forms
 pub record Two {A : Type 0} (fs : Forms) (k : Form → Form → Option A) (z : A) : Type 0 where
@@ -108,10 +108,10 @@ pub record Two {A : Type 0} (fs : Forms) (k : Form → Form → Option A) (z : A
   pub gives : k f g ≡ some z
 
 pub two : {A : Type 0} (fs : Forms) (k : Form → Form → Option A) (z : A) → on_two fs k ≡ some z → Two fs k z
-two stop k z h = none-some h
-two (f & stop) k z h = none-some h
+two stop k z h = none_some h
+two (f & stop) k z h = none_some h
 two (f & g & stop) k z h = record { f = f; g = g; is = refl; gives = h }
-two (f & g & i & is) k z h = none-some h
+two (f & g & i & is) k z h = none_some h
 
 pub record TwoOrMore {A : Type 0} (fs : Forms) (k : Form → Form → Forms → Option A) (z : A) : Type 0 where
   pub f : Form
@@ -121,8 +121,8 @@ pub record TwoOrMore {A : Type 0} (fs : Forms) (k : Form → Form → Forms → 
   pub gives : k f g rest ≡ some z
 
 pub two_or_more : {A : Type 0} (fs : Forms) (k : Form → Form → Forms → Option A) (z : A) → on_two_or_more fs k ≡ some z → TwoOrMore fs k z
-two_or_more stop k z h = none-some h
-two_or_more (f & stop) k z h = none-some h
+two_or_more stop k z h = none_some h
+two_or_more (f & stop) k z h = none_some h
 two_or_more (f & g & gs) k z h = record { f = f; g = g; rest = gs; is = refl; gives = h }
 
 pub record Something {A B : Type 0} (o : Option A) (k : A → Option B) (z : B) : Type 0 where
@@ -131,19 +131,19 @@ pub record Something {A B : Type 0} (o : Option A) (k : A → Option B) (z : B) 
   pub gives : k of ≡ some z
 
 pub something : {A B : Type 0} (o : Option A) (k : A → Option B) (z : B) → on_some o k ≡ some z → Something o k z
-something none k z h = none-some h
+something none k z h = none_some h
 something (some a) k z h = record { of = a; is = refl; gives = h }
 
 pub when_true : {A : Type 0} (b : Bool) (a : Option A) (z : A) → when b a ≡ some z → (b ≡ true) × (a ≡ some z)
 when_true true a z h = (refl, h)
-when_true false a z h = none-some h
+when_true false a z h = none_some h
 
-pub when-same : {A : Type 0} (f g : Form) (a : Option A) (z : A) → when_same f g a ≡ some z → (f ≡ g) × (a ≡ some z)
-when-same {A} f g a z h = go (same_form f g) h
+pub when_same_lem : {A : Type 0} (f g : Form) (a : Option A) (z : A) → when_same f g a ≡ some z → (f ≡ g) × (a ≡ some z)
+when_same_lem {A} f g a z h = go (same_form f g) h
   where
     go : (d : Dec (f ≡ g)) → elim d as (λ (d : Dec (f ≡ g)). Option A) [ yes e ↦ a | no n ↦ none ] ≡ some z → (f ≡ g) × (a ≡ some z)
     go (yes e) h = (e, h)
-    go (no n) h = none-some h
+    go (no n) h = none_some h
 
 -- a chain of exactly two parts
 pub record Split {A : Type 0} (c : Form) (k : Form → Form → Option A) (z : A) : Type 0 where
@@ -154,7 +154,7 @@ pub record Split {A : Type 0} (c : Form) (k : Form → Form → Option A) (z : A
 
 pub split : {A : Type 0} (c : Form) (k : Form → Form → Option A) (z : A) → on_split c k ≡ some z → Split c k z
 split c k z u =
-    let M = chain-made c (λ fs. on_two fs k) z u in
+    let M = chain_made c (λ fs. on_two fs k) z u in
     let T = two M.of k z M.gives in
     record { f = T.f; h = T.g; is = M.is ∙ ap chain T.is; gives = T.gives }
 
@@ -167,7 +167,7 @@ pub record EndsIn {A : Type 0} (h c : Form) (k : Form → Option A) (z : A) : Ty
 pub ends_in : {A : Type 0} (h c : Form) (k : Form → Option A) (z : A) → on_ending_in h c k ≡ some z → EndsIn h c k z
 ends_in h c k z u =
     let S = split c (λ f last. when_same last h (k f)) z u in
-    let W = when-same S.h h (k S.f) z S.gives in
+    let W = when_same_lem S.h h (k S.f) z S.gives in
     record { f = S.f; is = S.is ∙ ap (λ (b : Form). chain (S.f & b & stop)) W.0; gives = W.1 }
 
 -- `f1.h` to `fn.h`, and f1 to fn

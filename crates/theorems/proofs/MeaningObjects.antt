@@ -6,7 +6,7 @@ use mathlib.Core.Option.{Option, some, none}
 use native.Mathlib.Omega.{arith}
 use lib.IntN.{ℤ, pos, negsuc, ◌+ℤ◌, ◌-ℤ◌, ◌*ℤ◌}
 use lib.Signed.{lt_z}
-use Rattle.language.specs.Objects.{Obj, int, symbol, seq, Objs, nil, ◌::◌, length_of, ◌+++◌, nth_obj, truth, Truth, truth_of, isT, isF, neither}
+use Rattle.language.specs.Objects.{Obj, int, symbol, seq, Objs, nil, ◌::◌, length_of, ◌+++◌, nth_obj, truth, Truth, truth_of, is_T, is_F, neither}
 use Rattle.language.specs.Words.{Op}
 use Rattle.language.specs.Forms.{Word, select, select_right, op}
 use Rattle.language.specs.Numbers.{Edition, one, in_range}
@@ -53,9 +53,9 @@ on_ints_lem x k h f = on_pair_lem x (λ a b. on_int a (λ i. on_int b (λ j. k i
 on_truth_lem : (x : Obj) (k : Bool → WordAnswer) → ((t : Bool) → Given (k t)) → Given (on_truth x k)
 on_truth_lem x k f = go (truth_of x)
   where
-    go : (t : Truth) → Given (elim t as (λ (t : Truth). WordAnswer) [ isT ↦ k true | isF ↦ k false | neither ↦ falls ])
-    go isT = f true
-    go isF = f false
+    go : (t : Truth) → Given (elim t as (λ (t : Truth). WordAnswer) [ is_T ↦ k true | is_F ↦ k false | neither ↦ falls ])
+    go is_T = f true
+    go is_F = f false
     go neither = nothing
 
 on_truths : (x : Obj) (k : Bool → Bool → WordAnswer) → IsObj x → ((i j : Bool) → Given (k i j)) → Given (on_pair x (λ a b. on_truth a (λ i. on_truth b (λ j. k i j))))
@@ -67,23 +67,23 @@ is_truth : (t : Bool) → IsObj (truth t)
 is_truth true = (refl, refl, omega arith)
 is_truth false = (refl, refl, omega arith)
 
-truth-given : {s c : ℕ} (t : Bool) → Given (gives s c (truth t))
-truth-given t = given (is_truth t)
+truth_given : {s c : ℕ} (t : Bool) → Given (gives s c (truth t))
+truth_given t = given (is_truth t)
 
 in_range_lem : (e : Edition) (z : ℤ) → in_range e z ≡ true → IsInteger z
 in_range_lem one z h = h
 
-number-given : (e : Edition) (o : Op) (z : ℤ) → Given (number e o z)
-number-given e o z = go (in_range e z) refl
+number_given : (e : Edition) (o : Op) (z : ℤ) → Given (number e o z)
+number_given e o z = go (in_range e z) refl
   where
     go : (t : Bool) → in_range e z ≡ t → Given (number e o z)
     go true h = rw (h, number) (given (in_range_lem e z h))
     go false h = rw (h, number) nothing
 
-divided-given : (e : Edition) (a b : ℤ) → Given (divided e a b)
-divided-given e a (pos zero) = nothing
-divided-given e a (pos (suc n)) = number-given e Op.div (quotient e a (pos (suc n)))
-divided-given e a (negsuc n) = number-given e Op.div (quotient e a (negsuc n))
+divided_given : (e : Edition) (a b : ℤ) → Given (divided e a b)
+divided_given e a (pos zero) = nothing
+divided_given e a (pos (suc n)) = number_given e Op.div (quotient e a (pos (suc n)))
+divided_given e a (negsuc n) = number_given e Op.div (quotient e a (negsuc n))
 
 -- ---- sequences
 
@@ -92,9 +92,9 @@ nth_given j nil h = nothing
 nth_given zero (x :: xs) h = given h.0
 nth_given (suc j) (x :: xs) h = nth_given j xs h.1
 
-pick-given : (o : Option ℕ) (xs : Objs) → AreObjs xs → Given (pick o xs)
-pick-given none xs h = nothing
-pick-given (some j) xs h = nth_given j xs h
+pick_given : (o : Option ℕ) (xs : Objs) → AreObjs xs → Given (pick o xs)
+pick_given none xs h = nothing
+pick_given (some j) xs h = nth_given j xs h
 
 append_objs : (xs ys : Objs) → AreObjs xs → AreObjs ys → AreObjs (xs +++ ys)
 append_objs nil ys h k = k
@@ -151,8 +151,8 @@ unfolding columns_at
 columns_objs j zero rs h = tt
 columns_objs j (suc m) rs h = (column_objs j rs h, columns_objs (suc j) m rs h)
 
-transposed-given : (m : ℕ) (rs : Objs) → AreObjs rs → Given (transposed m rs)
-transposed-given m rs h = go (are_rows m rs) refl
+transposed_given : (m : ℕ) (rs : Objs) → AreObjs rs → Given (transposed m rs)
+transposed_given m rs h = go (are_rows m rs) refl
   where
     go : (t : Bool) → are_rows m rs ≡ t → Given (transposed m rs)
     go true e = rw (e, transposed) (given (columns_objs 0 m rs h))
@@ -163,18 +163,18 @@ transposed-given m rs h = go (are_rows m rs) refl
 op_given : (e : Edition) (o : Op) (x : Obj) → IsObj x → Given (meaning e (op o) x)
 op_given e Op.id x h = given h
 op_given e Op.tl x h = on_full_lem x _ h (λ y ys p q. given q)
-op_given e Op.atom x h = truth-given (is_atom x)
-op_given e Op.null x h = truth-given (is_null x)
-op_given e Op.eq x h = on_pair_lem x _ h (λ a b p q. truth-given (look a b).same)
-op_given e Op.lt x h = on_ints_lem x _ h (λ i j. truth-given (lt_z i j))
-op_given e Op.length x h = on_seq_lem x _ h (λ xs p. number-given e Op.length (pos (length_of xs)))
-op_given e Op.add x h = on_ints_lem x _ h (λ i j. number-given e Op.add (i +ℤ j))
-op_given e Op.sub x h = on_ints_lem x _ h (λ i j. number-given e Op.sub (i -ℤ j))
-op_given e Op.mul x h = on_ints_lem x _ h (λ i j. number-given e Op.mul (i *ℤ j))
-op_given e Op.div x h = on_ints_lem x _ h (λ i j. divided-given e i j)
-op_given e Op.and x h = on_truths x (λ i j. gives 0 0 (truth (i && j))) h (λ i j. truth-given (i && j))
-op_given e Op.or x h = on_truths x (λ i j. gives 0 0 (truth (i || j))) h (λ i j. truth-given (i || j))
-op_given e Op.not x h = on_truth_lem x (λ i. gives 0 0 (truth (opposite i))) (λ i. truth-given (opposite i))
+op_given e Op.atom x h = truth_given (is_atom x)
+op_given e Op.null x h = truth_given (is_null x)
+op_given e Op.eq x h = on_pair_lem x _ h (λ a b p q. truth_given (look a b).same)
+op_given e Op.lt x h = on_ints_lem x _ h (λ i j. truth_given (lt_z i j))
+op_given e Op.length x h = on_seq_lem x _ h (λ xs p. number_given e Op.length (pos (length_of xs)))
+op_given e Op.add x h = on_ints_lem x _ h (λ i j. number_given e Op.add (i +ℤ j))
+op_given e Op.sub x h = on_ints_lem x _ h (λ i j. number_given e Op.sub (i -ℤ j))
+op_given e Op.mul x h = on_ints_lem x _ h (λ i j. number_given e Op.mul (i *ℤ j))
+op_given e Op.div x h = on_ints_lem x _ h (λ i j. divided_given e i j)
+op_given e Op.and x h = on_truths x (λ i j. gives 0 0 (truth (i && j))) h (λ i j. truth_given (i && j))
+op_given e Op.or x h = on_truths x (λ i j. gives 0 0 (truth (i || j))) h (λ i j. truth_given (i || j))
+op_given e Op.not x h = on_truth_lem x (λ i. gives 0 0 (truth (opposite i))) (λ i. truth_given (opposite i))
 op_given e Op.apndl x h = on_pair_lem x _ h (λ a b p q. on_seq_lem b _ q (λ ys u. given (p, u)))
 op_given e Op.tlr x h = on_full_lem x _ h (λ y ys p q. given (but_last_objs y ys p q))
 op_given e Op.reverse x h = on_seq_lem x _ h (λ xs p. given (turned_objs xs nil p tt))
@@ -183,9 +183,9 @@ op_given e Op.rotr x h = on_seq_lem x _ h (λ xs p. given (right_objs xs p))
 op_given e Op.apndr x h = on_pair_lem x _ h (λ a b p q. on_seq_lem a _ p (λ xs u. given (append_objs xs (b :: nil) u (q, tt))))
 op_given e Op.distl x h = on_pair_lem x _ h (λ a b p q. on_seq_lem b _ q (λ ys u. given (with_left_objs a ys p u)))
 op_given e Op.distr x h = on_pair_lem x _ h (λ a b p q. on_seq_lem a _ p (λ xs u. given (with_right_objs xs b u q)))
-op_given e Op.trans x h = on_full_lem x _ h (λ r rs p q. transposed-given (width_of r) (r :: rs) (p, q))
+op_given e Op.trans x h = on_full_lem x _ h (λ r rs p q. transposed_given (width_of r) (r :: rs) (p, q))
 
-pub word-given : (e : Edition) (w : Word) (x : Obj) → IsObj x → Given (meaning e w x)
-word-given e (select k) x h = on_seq_lem x _ h (λ xs p. pick-given (from_left k (length_of xs)) xs p)
-word-given e (select_right k) x h = on_seq_lem x _ h (λ xs p. pick-given (from_right k (length_of xs)) xs p)
-word-given e (op o) x h = op_given e o x h
+pub word_given : (e : Edition) (w : Word) (x : Obj) → IsObj x → Given (meaning e w x)
+word_given e (select k) x h = on_seq_lem x _ h (λ xs p. pick_given (from_left k (length_of xs)) xs p)
+word_given e (select_right k) x h = on_seq_lem x _ h (λ xs p. pick_given (from_right k (length_of xs)) xs p)
+word_given e (op o) x h = op_given e o x h

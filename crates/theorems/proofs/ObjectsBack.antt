@@ -16,7 +16,7 @@ use Rattle.language.specs.Accepted.{IsObj, AreObjs}
 use Rattle.theorems.specs.ReadBack.{ObjectsReadBack, EqualBytes}
 use Rattle.theorems.proofs.Texts.{byte_here, place_here, drop_one, place_end, span-nil, span_none, judged_here}
 use Rattle.theorems.proofs.Readers.{Reads, EndsWord, suc_of, closed, joined}
-use Rattle.theorems.proofs.Atoms.{BeginsAtom, integer_judged, symbol_judged, integer_begins, symbol_begins, integer_size, symbol-size}
+use Rattle.theorems.proofs.Atoms.{BeginsAtom, integer_judged, symbol_judged, integer_begins, symbol_begins, integer_size, symbol_size}
 
 abbrev pub ReadsObj : Obj → Type 0
 ReadsObj x = Reads read_obj EndsWord 0 (write_obj x) (marks_of_obj x) x
@@ -39,13 +39,13 @@ atom_back x w b j size s at room k l d f m n =
 
 -- behind an object: the > or a comma
 module _ (x : Obj) (s : List ℕ) (at room k e : ℕ) (l : List ℕ) (read : read_obj k s at room ≡ got x e) where
-  last-object : drop e s ≡ 62 ∷ l → read_objs (suc k) s at room ≡ got (x :: nil) (e + 1)
+  last_object : drop e s ≡ 62 ∷ l → read_objs (suc k) s at room ≡ got (x :: nil) (e + 1)
   unfolding read_objs after_object
-  last-object d = rw (read, place_here s e 62 l d refl, byte_here s e 62 l d)
+  last_object d = rw (read, place_here s e 62 l d refl, byte_here s e 62 l d)
 
-  later-object : drop e s ≡ 44 ∷ l → read_objs (suc k) s at room ≡ and_then (read_objs k s (e + 1) room) (λ xs e. got (x :: xs) e)
+  later_object : drop e s ≡ 44 ∷ l → read_objs (suc k) s at room ≡ and_then (read_objs k s (e + 1) room) (λ xs e. got (x :: xs) e)
   unfolding read_objs after_object
-  later-object d = rw (read, place_here s e 44 l d refl, byte_here s e 44 l d)
+  later_object d = rw (read, place_here s e 44 l d refl, byte_here s e 44 l d)
 
 abbrev AllRead : Objs → Type 0
 AllRead nil = Unit {0}
@@ -53,10 +53,10 @@ AllRead (x :: xs) = ReadsObj x × AllRead xs
 
 objs_back : (x : Obj) (xs : Objs) → AllRead (x :: xs) → Reads read_objs EndsWord 1 (write_objs (x :: xs)) (marks_of_objs (x :: xs)) (x :: xs)
 unfolding write_objs
-objs_back x nil r = closed 62 read_obj read_objs (λ x. x :: nil) EndsWord EndsWord 0 (write_obj x) (marks_of_obj x) x (λ l. span_none is_word_byte 62 l refl) (last-object x) r.0
+objs_back x nil r = closed 62 read_obj read_objs (λ x. x :: nil) EndsWord EndsWord 0 (write_obj x) (marks_of_obj x) x (λ l. span_none is_word_byte 62 l refl) (last_object x) r.0
 objs_back x (y :: ys) r =
     joined 44 read_obj read_objs read_objs ◌::◌ EndsWord EndsWord 0 (write_obj x) (marks_of_obj x) x (write_objs (y :: ys)) (marks_of_objs (y :: ys)) (y :: ys)
-    (λ l. span_none is_word_byte 44 l refl) (later-object x) r.0 (objs_back y ys r.1)
+    (λ l. span_none is_word_byte 44 l refl) (later_object x) r.0 (objs_back y ys r.1)
 
 seq_back : (xs : Objs) → AreObjs xs → AllRead xs → ReadsObj (seq xs)
 unfolding read_obj inside_sequence opens write_objs
@@ -91,16 +91,16 @@ mutual
 
   pub obj_back : (x : Obj) → IsObj x → ReadsObj x
   obj_back (int z) h = atom_back (int z) (write_integer z) (integer_begins z) (integer_judged z h) (λ s p l e d. integer_size s p l e z d)
-  obj_back (symbol w) h = atom_back (symbol w) w (symbol_begins w h) (symbol_judged w h) (λ s p l e d. symbol-size s p l e w h d)
+  obj_back (symbol w) h = atom_back (symbol w) w (symbol_begins w h) (symbol_judged w h) (λ s p l e d. symbol_size s p l e w h d)
   obj_back (seq xs) h = seq_back xs h (all_read xs h)
 
   all_read : (xs : Objs) → AreObjs xs → AllRead xs
   all_read nil h = tt
   all_read (x :: xs) h = (obj_back x h.0, all_read xs h.1)
 
-pub objects-read_back : ObjectsReadBack
+pub objects_read_back : ObjectsReadBack
 unfolding read_object at_end
-objects-read_back x h m =
+objects_read_back x h m =
     let w = write_obj x in
     let g = obj_back x h w 0 32 (4 * length w + 4) [] (sym (append-nil w)) (span-nil is_word_byte) m (omega arith) in
     rw (g, zero-add, place_end w, eq-eqb (length w) (length w) refl)

@@ -13,7 +13,7 @@ use Rattle.language.specs.Reading.{Got, word_at, inside_sequence, after_object, 
 use Rattle.language.specs.Writing.{write_obj, write_objs, write_more_objs, marks_of_obj, marks_of_objs}
 use Rattle.language.specs.Accepted.{IsObj, AreObjs}
 use Rattle.theorems.specs.ReadBack.{ReadObject, ObjectsRead}
-use Rattle.theorems.proofs.Outcomes.{Meets, meets, refuses, got_meets, meets_then, meets_cond, meets_refused, meets_opens, meets_judged, place_on, word-long}
+use Rattle.theorems.proofs.Outcomes.{Meets, meets, refuses, got_meets, meets_then, meets_cond, meets_refused, meets_opens, meets_judged, place_on, word_long}
 use Rattle.theorems.proofs.JudgedWords.{IsAtomIn, judged_atom}
 
 -- from `at` to `e`, where `room` marks might open
@@ -29,16 +29,16 @@ pub record ObjectsIn (at room : ℕ) (xs : Objs) (e : ℕ) : Type 0 where
   pub short : at + length (write_objs xs) ≤ e
 
 -- later objects take a comma more
-more-objects : (xs : Objs) → length (write_more_objs xs) ≤ suc (length (write_objs xs))
+more_objects : (xs : Objs) → length (write_more_objs xs) ≤ suc (length (write_objs xs))
 unfolding write_objs
-more-objects nil = omega arith
-more-objects (x :: xs) = omega arith
+more_objects nil = omega arith
+more_objects (x :: xs) = omega arith
 
 module _ (s : List ℕ) (at room : ℕ) where
   atom_in : (x : Obj) → IsAtomIn (length (word_at s (place_from s at))) x → ObjectIn at room x (place_from s at + size_at s (place_from s at))
   atom_in x h =
       let p = place_on s at in
-      let l = word-long s (place_from s at) in
+      let l = word_long s (place_from s at) in
       record { is_obj = h.is_obj; marks = omega (arith, h.marks); short = omega (arith, h.short) }
 
   sequence_in : (a : ℕ) (r : ℕ → Got Objs) → at + 1 ≤ a → 1 ≤ room → Meets (ObjectsIn a (room - 1)) (r a) → Meets (ObjectIn at room) (inside_sequence s a r)
@@ -49,13 +49,13 @@ module _ (s : List ℕ) (at room : ℕ) where
       (λ t. meets (record { is_obj = tt; marks = omega arith; short = omega arith }))
       (λ t. meets_then h (λ xs e q. meets (record { is_obj = q.are_objs; marks = omega (arith, q.marks); short = omega (arith, q.short) })))
 
-  after-object : (x : Obj) (e : ℕ) (r : ℕ → Got Objs) → ObjectIn at room x e → Meets (ObjectsIn (place_from s e + 1) room) (r (place_from s e + 1)) → Meets (ObjectsIn at room) (after_object s x e r)
+  after_object_lem : (x : Obj) (e : ℕ) (r : ℕ → Got Objs) → ObjectIn at room x e → Meets (ObjectsIn (place_from s e + 1) room) (r (place_from s e + 1)) → Meets (ObjectsIn at room) (after_object s x e r)
   unfolding after_object write_objs
-  after-object x e r q h =
+  after_object_lem x e r q h =
       let p = place_on s e in
       meets_cond (eqb (byte_at s (place_from s e)) (code ","))
       (λ t. meets_then h (λ xs e' qs.
-      let m = more-objects xs in
+      let m = more_objects xs in
       meets (record { are_objs = (q.is_obj, qs.are_objs); marks = omega (arith, q.marks, qs.marks); short = rw length-append (omega (arith, q.short, qs.short)) })))
       (λ t. meets_cond (eqb (byte_at s (place_from s e)) (code ">"))
       (λ u. meets (record { are_objs = (q.is_obj, tt); marks = omega (arith, q.marks); short = rw length-append (omega (arith, q.short)) }))
@@ -77,7 +77,7 @@ mutual
   objects_in : (k : ℕ) (s : List ℕ) (at room : ℕ) → Meets (ObjectsIn at room) (read_objs k s at room)
   objects_in zero s at room = refuses
   objects_in (suc k) s at room =
-      meets_then (object_in k s at room) (λ x e q. after-object s at room x e (λ a. read_objs k s a room) q (objects_in k s (place_from s e + 1) room))
+      meets_then (object_in k s at room) (λ x e q. after_object_lem s at room x e (λ a. read_objs k s a room) q (objects_in k s (place_from s e + 1) room))
 
 -- nothing stands behind it
 whole : (s : List ℕ) (x : Obj) (e : ℕ) → ObjectIn 0 mark_limit x e → Meets (ReadObject s) (at_end s x e)
@@ -89,6 +89,6 @@ whole s x e q =
     (λ t. let n = eqb-true p (length s) t in meets (record { is_obj = q.is_obj; marks = q.marks; ends = n; no_longer = omega (arith, q.short) }))
     (λ t. meets_refused s p)
 
-pub objects-read : ObjectsRead
+pub objects_read : ObjectsRead
 unfolding read_object
-objects-read s x e h = got_meets (meets_then (object_in (calls s) s 0 mark_limit) (λ y a q. whole s y a q)) h
+objects_read s x e h = got_meets (meets_then (object_in (calls s) s 0 mark_limit) (λ y a q. whole s y a q)) h

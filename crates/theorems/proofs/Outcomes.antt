@@ -82,5 +82,5 @@ pub place_on : (s : List ℕ) (at : ℕ) → at ≤ place_from s at
 unfolding place_from
 place_on s at = omega arith
 
-pub word-long : (s : List ℕ) (p : ℕ) → length (word_at s p) ≤ size_at s p
-word-long s p = rw (length-drop, length-take) (omega arith)
+pub word_long : (s : List ℕ) (p : ℕ) → length (word_at s p) ≤ size_at s p
+word_long s p = rw (length-drop, length-take) (omega arith)

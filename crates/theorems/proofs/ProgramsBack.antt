@@ -14,9 +14,9 @@ use Rattle.language.specs.Reading.{Got, got, and_then, as_judged, word_at, mark,
 use Rattle.language.specs.Writing.{write_form, write_program, marks_of, marks_of_program}
 use Rattle.language.specs.Accepted.{IsName, IsForm, AreDefinitions, Different, WellFormed}
 use Rattle.theorems.specs.ReadBack.{ProgramsReadBack}
-use Rattle.theorems.proofs.Texts.{place_here, drop_past, drop_one, place_end, span_none, judged_here, mark-here}
+use Rattle.theorems.proofs.Texts.{place_here, drop_past, drop_one, place_end, span_none, judged_here, mark_here}
 use Rattle.theorems.proofs.Readers.{suc_of}
-use Rattle.theorems.proofs.WordsBack.{name_byte_no_blank, plain_begins, plain_size, name-plain, name_defined}
+use Rattle.theorems.proofs.WordsBack.{name_byte_no_blank, plain_begins, plain_size, name_plain, name_defined}
 use Rattle.theorems.proofs.FormsBack.{form_back}
 
 definition_back : (s : List ℕ) (at k : ℕ) (d : Def) (l : List ℕ) → IsName d.called → IsForm d.body → marks_of d.body ≤ 32 →
@@ -26,7 +26,7 @@ unfolding definition_at
 definition_back s at k d l n f m h b =
     let w = d.called in
     let v = write_form d.body in
-    let x = name-plain w n in
+    let x = name_plain w n in
     let z = plain_size s at (61 ∷ (v ++ 59 ∷ l)) w (name w) (span_none is_word_byte 61 (v ++ 59 ∷ l) refl) x h in
     let j = judged_here judge_name w s at w (61 ∷ (v ++ 59 ∷ l)) h z (name_defined w n) in
     let e₁ = at + length w in
@@ -38,11 +38,11 @@ definition_back s at k d l n f m h b =
     rw (
       j,
       and_then,
-      mark-here {A = Placed} 61 s e₁ (λ a. and_then (read_form k s a 32) (λ f e. mark 59 s e (λ a. got (record { place = at; def = record { called = w; body = f } }) a)))
+      mark_here {A = Placed} 61 s e₁ (λ a. and_then (read_form k s a 32) (λ f e. mark 59 s e (λ a. got (record { place = at; def = record { called = w; body = f } }) a)))
           (v ++ 59 ∷ l) h₁ refl,
       g,
       and_then,
-      mark-here {A = Placed} 59 s e₂ (λ a. got (record { place = at; def = d }) a) l h₃ refl,
+      mark_here {A = Placed} 59 s e₂ (λ a. got (record { place = at; def = d }) a) l h₃ refl,
     )
 
 -- behind a definition that begins at a place
@@ -82,7 +82,7 @@ definitions_back (d ∷ ds) s at k a m h n b =
     let t₂ = length-append v (59 ∷ l) in
     let t₃ = length-drop at s in
     let t₄ = ap length h in
-    let x = name-plain w a.0 in
+    let x = name_plain w a.0 in
     let c = plain_begins w (name w) x in
     let p = place_here s at c.0 (c.1 ++ 61 ∷ (v ++ 59 ∷ l)) (rw c.2 at h) (name_byte_no_blank c.0 c.3) in
     let g = definition_back s at i.0 d l a.0 a.1 (omega arith) h (omega (arith, i.1)) in
@@ -93,10 +93,10 @@ definitions_back (d ∷ ds) s at k a m h n b =
     let r = definitions_back ds s (e₂ + 1) i.0 a.2 (omega arith) (drop_one s e₂ 59 l h₂) (omega arith) (omega (arith, i.1)) in
     rw i.1 (definitions_more (record { place = at; def = d }) (placed (behind at d) ds) s at i.0 (e₂ + 1) (length s) p (ne_eqb at (length s) (omega (arith, x.long))) g r)
 
-placed-defs : (at : ℕ) (P : Prog) → program_of (placed at P) ≡ P
+placed_defs : (at : ℕ) (P : Prog) → program_of (placed at P) ≡ P
 unfolding placed
-placed-defs at [] = refl
-placed-defs at (d ∷ ds) = ap (λ (Q : Prog). d ∷ Q) (placed-defs (behind at d) ds)
+placed_defs at [] = refl
+placed_defs at (d ∷ ds) = ap (λ (Q : Prog). d ∷ Q) (placed_defs (behind at d) ds)
 
 none_twice_lem : (earlier : List (List ℕ)) (ds : List Placed) (good : Got Prog) → Different earlier (program_of ds) → none_twice earlier ds good ≡ good
 unfolding none_twice
@@ -113,4 +113,4 @@ unfolding read_program
 programs_read_back P h =
     let s = write_program P in
     let r = definitions_back P s 0 (4 * length s + 4) h.definitions h.few_marks refl (omega arith) (omega arith) in
-    rw r (within_limits_lem (placed 0 P) (length s) P (placed-defs 0 P) h)
+    rw r (within_limits_lem (placed 0 P) (length s) P (placed_defs 0 P) h)

@@ -18,7 +18,7 @@ use Rattle.language.specs.Writing.{write_form, write_parts, write_more_parts, wr
 use Rattle.language.specs.Writing.{bracketed, marks_of, bracket_marks, marks_of_parts, marks_of_forms, marks_of_program}
 use Rattle.language.specs.Accepted.{IsForm, AreForms, IsName, OneOrMore, AreDefinitions, Different}
 use Rattle.theorems.specs.ReadBack.{ReadProgram, ProgramsRead}
-use Rattle.theorems.proofs.Outcomes.{Meets, meets, refuses, got_meets, meets_then, meets_cond, meets_refused, meets_mark, meets_opens, meets_judged, place_on, word-long}
+use Rattle.theorems.proofs.Outcomes.{Meets, meets, refuses, got_meets, meets_then, meets_cond, meets_refused, meets_mark, meets_opens, meets_judged, place_on, word_long}
 use Rattle.theorems.proofs.JudgedWords.{IsPartIn, judged_part, judged_name}
 use Rattle.theorems.proofs.ObjectsRead.{ObjectIn, object_in}
 
@@ -69,10 +69,10 @@ unfolding write_parts
 more_parts stop = omega arith
 more_parts (f & fs) = omega arith
 
-more-forms : (fs : Forms) → length (write_more_forms fs) ≤ suc (length (write_forms fs))
+more_forms : (fs : Forms) → length (write_more_forms fs) ≤ suc (length (write_forms fs))
 unfolding write_forms
-more-forms stop = omega arith
-more-forms (f & fs) = omega arith
+more_forms stop = omega arith
+more_forms (f & fs) = omega arith
 
 -- ---- one step of a reader
 
@@ -80,11 +80,11 @@ module _ (s : List ℕ) (at room : ℕ) where
   word_in : (f : Form) → IsPartIn (length (word_at s (place_from s at))) f → PartIn at room f (place_from s at + size_at s (place_from s at))
   word_in f h =
       let p = place_on s at in
-      let l = word-long s (place_from s at) in
+      let l = word_long s (place_from s at) in
       record { is_form = h.is_form; marks = rw h.no_chain (omega (arith, h.marks)); short = rw h.no_chain (omega (arith, h.short)) }
 
-  form_of-part : (f : Form) (e : ℕ) → PartIn at room f e → FormIn at room f e
-  form_of-part f e q =
+  form_of_part : (f : Form) (e : ℕ) → PartIn at room f e → FormIn at room f e
+  form_of_part f e q =
       let b = bracket_bytes f (write_form f) in
       let m = bracket_marks_lem f (marks_of f) in
       record { is_form = q.is_form; marks = omega (arith, q.marks, m.0); short = omega (arith, q.short, b.0) }
@@ -95,19 +95,19 @@ module _ (s : List ℕ) (at room : ℕ) where
       let m = bracket_marks_lem f (marks_of f) in
       record { is_form = q.is_form; marks = omega (arith, q.marks, m.1); short = omega (arith, q.short, b.1) }
 
-  after-part : (f : Form) (e : ℕ) (r : ℕ → Got Forms) → PartIn at room f e → Meets (PartsIn (place_from s e + 1) room) (r (place_from s e + 1)) → Meets (FormIn at room) (after_part s f e r)
+  after_part_lem : (f : Form) (e : ℕ) (r : ℕ → Got Forms) → PartIn at room f e → Meets (PartsIn (place_from s e + 1) room) (r (place_from s e + 1)) → Meets (FormIn at room) (after_part s f e r)
   unfolding after_part write_form
-  after-part f e r q h =
+  after_part_lem f e r q h =
       let p = place_on s e in
       meets_cond (eqb (byte_at s (place_from s e)) (code "."))
       (λ t. meets_then h (λ fs e' qs.
       let m = more_parts fs in
       meets (record { is_form = (qs.one_or_more, (q.is_form, qs.are_forms)); marks = omega (arith, q.marks, qs.marks); short = rw length-append (omega (arith, q.short, qs.short)) })))
-      (λ t. meets (form_of-part f e q))
+      (λ t. meets (form_of_part f e q))
 
-  after-parts : (f : Form) (e : ℕ) (r : ℕ → Got Forms) → PartIn at room f e → Meets (PartsIn (place_from s e + 1) room) (r (place_from s e + 1)) → Meets (PartsIn at room) (after_parts s f e r)
+  after_parts_lem : (f : Form) (e : ℕ) (r : ℕ → Got Forms) → PartIn at room f e → Meets (PartsIn (place_from s e + 1) room) (r (place_from s e + 1)) → Meets (PartsIn at room) (after_parts s f e r)
   unfolding after_parts write_form
-  after-parts f e r q h =
+  after_parts_lem f e r q h =
       let p = place_on s e in
       meets_cond (eqb (byte_at s (place_from s e)) (code "."))
       (λ t. meets_then h (λ fs e' qs.
@@ -115,22 +115,22 @@ module _ (s : List ℕ) (at room : ℕ) where
       meets (record { are_forms = (q.is_form, qs.are_forms); one_or_more = tt; marks = omega (arith, q.marks, qs.marks); short = rw length-append (omega (arith, q.short, qs.short)) })))
       (λ t. meets (record { are_forms = (q.is_form, tt); one_or_more = tt; marks = omega (arith, q.marks); short = rw length-append (omega (arith, q.short)) }))
 
-  after-form : (f : Form) (e : ℕ) (r : ℕ → Got Forms) → FormIn at room f e → Meets (FormsIn (place_from s e + 1) room) (r (place_from s e + 1)) → Meets (FormsIn at room) (after_form s f e r)
+  after_form_lem : (f : Form) (e : ℕ) (r : ℕ → Got Forms) → FormIn at room f e → Meets (FormsIn (place_from s e + 1) room) (r (place_from s e + 1)) → Meets (FormsIn at room) (after_form s f e r)
   unfolding after_form write_form
-  after-form f e r q h =
+  after_form_lem f e r q h =
       let p = place_on s e in
       meets_cond (eqb (byte_at s (place_from s e)) (code ","))
       (λ t. meets_then h (λ fs e' qs.
-      let m = more-forms fs in
+      let m = more_forms fs in
       meets (record { are_forms = (q.is_form, qs.are_forms); one_or_more = tt; marks = omega (arith, q.marks, qs.marks); short = rw length-append (omega (arith, q.short, qs.short)) })))
       (λ t. meets_cond (eqb (byte_at s (place_from s e)) (code "]"))
       (λ u. meets (record { are_forms = (q.is_form, tt); one_or_more = tt; marks = omega (arith, q.marks); short = rw length-append (omega (arith, q.short)) }))
       (λ u. meets_refused s (place_from s e)))
 
   -- behind the first form in `( )`, read from a on
-  after-test : (p : Form) (a e : ℕ) (r : ℕ → Got Form) → at + 1 ≤ a → 1 ≤ room → FormIn a (room - 1) p e → ((b : ℕ) → Meets (FormIn b (room - 1)) (r b)) → Meets (PartIn at room) (after_test s p e r)
+  after_test_lem : (p : Form) (a e : ℕ) (r : ℕ → Got Form) → at + 1 ≤ a → 1 ≤ room → FormIn a (room - 1) p e → ((b : ℕ) → Meets (FormIn b (room - 1)) (r b)) → Meets (PartIn at room) (after_test s p e r)
   unfolding after_test write_form
-  after-test p a e r la lr q h =
+  after_test_lem p a e r la lr q h =
       let n = place_from s e in
       let o = place_on s e in
       meets_cond (eqb (byte_at s n) (code "-") && eqb (byte_at s (n + 1)) (code ">"))
@@ -185,17 +185,17 @@ mutual
   pub form_in : (k : ℕ) (s : List ℕ) (at room : ℕ) → Meets (FormIn at room) (read_form k s at room)
   form_in zero s at room = refuses
   form_in (suc k) s at room =
-      meets_then (part_in k s at room) (λ f e q. after-part s at room f e (λ a. read_parts k s a room) q (parts_in k s (place_from s e + 1) room))
+      meets_then (part_in k s at room) (λ f e q. after_part_lem s at room f e (λ a. read_parts k s a room) q (parts_in k s (place_from s e + 1) room))
 
   parts_in : (k : ℕ) (s : List ℕ) (at room : ℕ) → Meets (PartsIn at room) (read_parts k s at room)
   parts_in zero s at room = refuses
   parts_in (suc k) s at room =
-      meets_then (part_in k s at room) (λ f e q. after-parts s at room f e (λ a. read_parts k s a room) q (parts_in k s (place_from s e + 1) room))
+      meets_then (part_in k s at room) (λ f e q. after_parts_lem s at room f e (λ a. read_parts k s a room) q (parts_in k s (place_from s e + 1) room))
 
   forms_in : (k : ℕ) (s : List ℕ) (at room : ℕ) → Meets (FormsIn at room) (read_forms k s at room)
   forms_in zero s at room = refuses
   forms_in (suc k) s at room =
-      meets_then (form_in k s at room) (λ f e q. after-form s at room f e (λ a. read_forms k s a room) q (forms_in k s (place_from s e + 1) room))
+      meets_then (form_in k s at room) (λ f e q. after_form_lem s at room f e (λ a. read_forms k s a room) q (forms_in k s (place_from s e + 1) room))
 
   part_in : (k : ℕ) (s : List ℕ) (at room : ℕ) → Meets (PartIn at room) (read_part k s at room)
   part_in zero s at room = refuses
@@ -223,7 +223,7 @@ mutual
       (meets_then (object_in k s (place_from s e + 1) (room - 1)) (λ x e₁ q₁. meets_mark (code "}") s e₁ (λ a. got (bu f x) a) (meets (bu_in s at room a e e₁ f x la l q q₁)))))))
       (λ t. meets_cond (eqb b (code "("))
       (λ t. meets_opens p room (λ a. and_then (read_form k s a (room - 1)) (λ f e. after_test s f e (λ a. read_form k s a (room - 1))))
-      (λ l. meets_then (form_in k s a (room - 1)) (λ f e q. after-test s at room f a e (λ a. read_form k s a (room - 1)) la l q (λ b. form_in k s b (room - 1)))))
+      (λ l. meets_then (form_in k s a (room - 1)) (λ f e q. after_test_lem s at room f a e (λ a. read_form k s a (room - 1)) la l q (λ b. form_in k s b (room - 1)))))
       (λ t. meets_judged s p (judged_part (word_at s p)) (λ f h. word_in s at room f h)))))))
 
 -- ---- definitions
@@ -256,7 +256,7 @@ definitions_in zero s at = refuses
 definitions_in (suc k) s at =
     let p = place_from s at in
     let o = place_on s at in
-    let l = word-long s p in
+    let l = word_long s p in
     meets_cond (eqb p (length s))
     (λ t. meets (record { definitions = tt; marks = omega arith; ends = eqb-true p (length s) t; short = omega arith }))
     (λ t. meets_then {Q = DefinitionIn at}
@@ -279,9 +279,9 @@ none_twice_lem earlier [] good f = f tt
 none_twice_lem earlier (d ∷ ds) good f =
     meets_cond (is_in d.def.called earlier) (λ t. refuses) (λ t. none_twice_lem (d.def.called ∷ earlier) ds good (λ h. f (t, h)))
 
-or-false : (a b : Bool) → (a || b) ≡ false → (a ≡ false) × (b ≡ false)
-or-false true b h = let z : ◌≡◌ {A = ℕ} 0 1 = cc in absurd (omega arith)
-or-false false b h = (refl, h)
+or_false : (a b : Bool) → (a || b) ≡ false → (a ≡ false) × (b ≡ false)
+or_false true b h = let z : ◌≡◌ {A = ℕ} 0 1 = cc in absurd (omega arith)
+or_false false b h = (refl, h)
 
 within_limits_lem : (s : List ℕ) (ds : List Placed) (e : ℕ) → DefinitionsIn s 0 ds e → Meets (ReadProgram s) (within_limits ds e)
 unfolding within_limits
@@ -289,7 +289,7 @@ within_limits_lem s ds e q =
     let P = program_of ds in
     meets_cond (ltb 2048 (forms_of P) || ltb 128 (length P)) (λ t. refuses)
     (λ t. none_twice_lem [] ds (got P e) (λ h.
-    let x = or-false (ltb 2048 (forms_of P)) (ltb 128 (length P)) t in
+    let x = or_false (ltb 2048 (forms_of P)) (ltb 128 (length P)) t in
     meets (record {
       well_formed = record { definitions = q.definitions; different = h; few_forms = ltb-false 2048 (forms_of P) x.0; few_definitions = ltb-false 128 (length P) x.1; few_marks = q.marks };
       ends = q.ends;

@@ -23,9 +23,9 @@ abbrev pub EndsForm : List ℕ → Type 0
 EndsForm [] = ⊥
 EndsForm (c ∷ l) = (is_word_byte c ≡ false) × (is_blank c ≡ false) × (eqb c 46 ≡ false)
 
-pub ends-word : (l : List ℕ) → EndsForm l → EndsWord l
-ends-word [] h = absurd h
-ends-word (c ∷ l) h = span_none is_word_byte c l h.0
+pub ends_word : (l : List ℕ) → EndsForm l → EndsWord l
+ends_word [] h = absurd h
+ends_word (c ∷ l) h = span_none is_word_byte c l h.0
 
 -- w reads as a, with m marks open at once, in 3 calls for each byte and n besides
 abbrev pub Reads : {A : Type 0} → Reader A → (List ℕ → Type 0) → (n : ℕ) → (w : List ℕ) → (m : ℕ) → A → Type 0

@@ -16,15 +16,15 @@ use Rattle.language.specs.Numbers.{mark_limit}
 use Rattle.language.specs.Reading.{Got, got, no, and_then, word_at, as_judged, refused, mark, opens, inside_sequence, after_object, read_obj, read_objs, at_end, calls, read_object}
 use Rattle.language.specs.Reading.{after_test, after_part, after_parts, after_form, read_form, read_parts, read_forms, read_part, Placed, program_of, definition_at, read_definitions, is_in, none_twice, within_limits, read_program}
 use Rattle.theorems.specs.ReadBack.{Refusal, ObjectsRefused, ProgramsRefused}
-use Rattle.theorems.proofs.Outcomes.{Outcome, meets, refuses_by, MeetsWord, meets_word, misspelled, out_of_range, too_long, no_meets, meets_then, meets_cond, place_on, word-long}
+use Rattle.theorems.proofs.Outcomes.{Outcome, meets, refuses_by, MeetsWord, meets_word, misspelled, out_of_range, too_long, no_meets, meets_then, meets_cond, place_on, word_long}
 use Rattle.theorems.proofs.JudgedWords.{judged_atom, judged_part, judged_name}
 
 -- ---- places within a text
 
-span-short : (test : ℕ → Bool) (s : List ℕ) → span test s ≤ length s
+span_short : (test : ℕ → Bool) (s : List ℕ) → span test s ≤ length s
 unfolding span
-span-short test [] = omega arith
-span-short test (b ∷ s) = go (span-short test s) (test b)
+span_short test [] = omega arith
+span_short test (b ∷ s) = go (span_short test s) (test b)
   where
     go : span test s ≤ length s → (t : Bool) → elim t [ true ↦ suc (span test s) | false ↦ zero ] ≤ suc (length s)
     go h true = omega arith
@@ -36,27 +36,27 @@ dash_short [] = omega arith
 dash_short (b ∷ s) = go (is_digit b) (eqb b (code ">"))
   where
     go : (t u : Bool) → elim t [ true ↦ suc (suc (span is_word_byte s)) | false ↦ elim u [ true ↦ 2 | false ↦ 1 ] ] ≤ suc (suc (length s))
-    go true u = let h = span-short is_word_byte s in omega arith
+    go true u = let h = span_short is_word_byte s in omega arith
     go false true = omega arith
     go false false = omega arith
 
-size-short : (s : List ℕ) → size s ≤ length s
+size_short : (s : List ℕ) → size s ≤ length s
 unfolding size
-size-short [] = omega arith
-size-short (b ∷ s) = go (is_word_byte b) (eqb b (code "-"))
+size_short [] = omega arith
+size_short (b ∷ s) = go (is_word_byte b) (eqb b (code "-"))
   where
     go : (t u : Bool) → elim t [ true ↦ suc (span is_word_byte s) | false ↦ elim u [ true ↦ dash_size s | false ↦ 1 ] ] ≤ suc (length s)
-    go true u = let h = span-short is_word_byte s in omega arith
+    go true u = let h = span_short is_word_byte s in omega arith
     go false true = dash_short s
     go false false = omega arith
 
-pub place-within : (s : List ℕ) (at : ℕ) → at ≤ length s → place_from s at ≤ length s
+pub place_within : (s : List ℕ) (at : ℕ) → at ≤ length s → place_from s at ≤ length s
 unfolding place_from
-place-within s at h = let i = span-short is_blank (drop at s) in let l = length-drop at s in omega arith
+place_within s at h = let i = span_short is_blank (drop at s) in let l = length-drop at s in omega arith
 
-pub size-within : (s : List ℕ) (p : ℕ) → p ≤ length s → p + size_at s p ≤ length s
+pub size_within : (s : List ℕ) (p : ℕ) → p ≤ length s → p + size_at s p ≤ length s
 unfolding size_at
-size-within s p h = let i = size-short (drop p s) in let l = length-drop p s in omega arith
+size_within s p h = let i = size_short (drop p s) in let l = length-drop p s in omega arith
 
 byte_within : (s : List ℕ) (p : ℕ) → 1 ≤ byte_at s p → p + 1 ≤ length s
 byte_within [] p h = absurd (omega arith)
@@ -64,8 +64,8 @@ byte_within (b ∷ s) zero h = omega arith
 byte_within (b ∷ s) (suc p) h = let i = byte_within s p h in omega arith
 
 -- a byte that is not 0 stands within the text
-pub mark-within : (s : List ℕ) (p b : ℕ) → 1 ≤ b → eqb (byte_at s p) b ≡ true → p + 1 ≤ length s
-mark-within s p b n h = let e = eqb-true (byte_at s p) b h in byte_within s p (omega arith)
+pub mark_within : (s : List ℕ) (p b : ℕ) → 1 ≤ b → eqb (byte_at s p) b ≡ true → p + 1 ≤ length s
+mark_within s p b n h = let e = eqb-true (byte_at s p) b h in byte_within s p (omega arith)
 
 -- ---- the demand, and a rule for each step
 
@@ -98,24 +98,24 @@ module _ {A : Type 0} {Q : A → ℕ → Type 0} (s : List ℕ) where
   pub spent : Reads s Q (no 6 (length s))
   spent = no_within 6 (length s) (omega arith) (omega arith) (omega arith)
 
-  pub refused-within : (p : ℕ) → p ≤ length s → Reads s Q (refused s p)
+  pub refused_within : (p : ℕ) → p ≤ length s → Reads s Q (refused s p)
   unfolding refused
-  refused-within p h = let n = refusal_number (word_at s p) in no_within (refusal_of (word_at s p)) p n.0 n.1 h
+  refused_within p h = let n = refusal_number (word_at s p) in no_within (refusal_of (word_at s p)) p n.0 n.1 h
 
-  pub mark-reads : (b at : ℕ) (rest : ℕ → Got A) → 1 ≤ b → at ≤ length s → (place_from s at + 1 ≤ length s → Reads s Q (rest (place_from s at + 1))) → Reads s Q (mark b s at rest)
+  pub mark_reads : (b at : ℕ) (rest : ℕ → Got A) → 1 ≤ b → at ≤ length s → (place_from s at + 1 ≤ length s → Reads s Q (rest (place_from s at + 1))) → Reads s Q (mark b s at rest)
   unfolding mark
-  mark-reads b at rest n l h =
+  mark_reads b at rest n l h =
       let p = place_from s at in
-      meets_cond (eqb (byte_at s p) b) (λ t. h (mark-within s p b n t)) (λ t. refused-within p (place-within s at l))
+      meets_cond (eqb (byte_at s p) b) (λ t. h (mark_within s p b n t)) (λ t. refused_within p (place_within s at l))
 
-  pub opens-reads : (p room : ℕ) (rest : ℕ → Got A) → p ≤ length s → Reads s Q (rest (p + 1)) → Reads s Q (opens p room rest)
+  pub opens_reads : (p room : ℕ) (rest : ℕ → Got A) → p ≤ length s → Reads s Q (rest (p + 1)) → Reads s Q (opens p room rest)
   unfolding opens
-  opens-reads p room rest l h = meets_cond (eqb room 0) (λ t. no_within 7 p (omega arith) (omega arith) l) (λ t. h)
+  opens_reads p room rest l h = meets_cond (eqb room 0) (λ t. no_within 7 p (omega arith) (omega arith) l) (λ t. h)
 
   -- what is judged is no empty word
   pub judged_reads : (p : ℕ) (judge : List ℕ → Judged A) {P : List ℕ → A → Type 0} → p ≤ length s → judge [] ≡ is_not 6
       → ((w : List ℕ) → MeetsWord (P w) (judge w)) → ((a : A) → p + 1 ≤ p + size_at s p → Q a (p + size_at s p)) → Reads s Q (as_judged s p (judge (word_at s p)))
-  judged_reads p judge {P} l none each f = go (word_at s p) (word-long s p)
+  judged_reads p judge {P} l none each f = go (word_at s p) (word_long s p)
     where
       one : (w : List ℕ) (j : Judged A) → 1 ≤ size_at s p → MeetsWord (P w) j → Reads s Q (as_judged s p j)
       one w _ n (meets_word {a} q) = meets (f a (omega arith))
@@ -127,12 +127,12 @@ module _ {A : Type 0} {Q : A → ℕ → Type 0} (s : List ℕ) where
       go [] n = rw none (no_within 6 p (omega arith) (omega arith) l)
       go (b ∷ w) n = one (b ∷ w) (judge (b ∷ w)) (omega arith) (each (b ∷ w))
 
-pub word-within : {A : Type 0} (s : List ℕ) (at : ℕ) (judge : List ℕ → Judged A) {P : List ℕ → A → Type 0} → at ≤ length s → judge [] ≡ is_not 6
+pub word_within : {A : Type 0} (s : List ℕ) (at : ℕ) (judge : List ℕ → Judged A) {P : List ℕ → A → Type 0} → at ≤ length s → judge [] ≡ is_not 6
     → ((w : List ℕ) → MeetsWord (P w) (judge w)) → Within s at (as_judged s (place_from s at) (judge (word_at s (place_from s at))))
-word-within s at judge l none each =
+word_within s at judge l none each =
     let o = place_on s at in
-    let i = place-within s at l in
-    judged_reads s (place_from s at) judge i none each (λ a n. record { behind = omega arith; inside = size-within s (place_from s at) i })
+    let i = place_within s at l in
+    judged_reads s (place_from s at) judge i none each (λ a n. record { behind = omega arith; inside = size_within s (place_from s at) i })
 
 -- ---- objects
 
@@ -146,46 +146,46 @@ module _ (s : List ℕ) (at : ℕ) where
       let p = place_from s a in
       let o = place_on s a in
       meets_cond (eqb (byte_at s p) (code ">"))
-      (λ t. meets (record { behind = omega arith; inside = mark-within s p (code ">") (omega arith) t }))
+      (λ t. meets (record { behind = omega arith; inside = mark_within s p (code ">") (omega arith) t }))
       (λ t. meets_then h (λ xs e q. meets (later a e l q)))
 
-  after-object-within : (x : Obj) (e : ℕ) (r : ℕ → Got Objs) → Ends s at e → (place_from s e + 1 ≤ length s → Within s (place_from s e + 1) (r (place_from s e + 1))) → Within s at (after_object s x e r)
+  after_object_within : (x : Obj) (e : ℕ) (r : ℕ → Got Objs) → Ends s at e → (place_from s e + 1 ≤ length s → Within s (place_from s e + 1) (r (place_from s e + 1))) → Within s at (after_object s x e r)
   unfolding after_object
-  after-object-within x e r q h =
+  after_object_within x e r q h =
       let p = place_from s e in
       let o = place_on s e in
       let b = q.behind in
       meets_cond (eqb (byte_at s p) (code ","))
-      (λ t. meets_then (h (mark-within s p (code ",") (omega arith) t)) (λ xs e₁ q₁. meets (later (p + 1) e₁ (omega arith) q₁)))
+      (λ t. meets_then (h (mark_within s p (code ",") (omega arith) t)) (λ xs e₁ q₁. meets (later (p + 1) e₁ (omega arith) q₁)))
       (λ t. meets_cond (eqb (byte_at s p) (code ">"))
-      (λ u. meets (record { behind = omega arith; inside = mark-within s p (code ">") (omega arith) u }))
-      (λ u. refused-within s p (place-within s e q.inside)))
+      (λ u. meets (record { behind = omega arith; inside = mark_within s p (code ">") (omega arith) u }))
+      (λ u. refused_within s p (place_within s e q.inside)))
 
 mutual
   unfolding read_obj judge_atom
 
-  pub object-within : (k : ℕ) (s : List ℕ) (at room : ℕ) → at ≤ length s → Within s at (read_obj k s at room)
-  object-within zero s at room l = spent s
-  object-within (suc k) s at room l =
+  pub object_within : (k : ℕ) (s : List ℕ) (at room : ℕ) → at ≤ length s → Within s at (read_obj k s at room)
+  object_within zero s at room l = spent s
+  object_within (suc k) s at room l =
       let p = place_from s at in
       let o = place_on s at in
       meets_cond (eqb (byte_at s p) (code "<"))
       (λ t.
-      let i = mark-within s p (code "<") (omega arith) t in
-      opens-reads s p room (λ a. inside_sequence s a (λ b. read_objs k s b (room - 1))) (omega arith)
-      (sequence_within s at (p + 1) (λ b. read_objs k s b (room - 1)) (omega arith) i (objects-within k s (p + 1) (room - 1) i)))
-      (λ t. word-within s at judge_atom l refl judged_atom)
+      let i = mark_within s p (code "<") (omega arith) t in
+      opens_reads s p room (λ a. inside_sequence s a (λ b. read_objs k s b (room - 1))) (omega arith)
+      (sequence_within s at (p + 1) (λ b. read_objs k s b (room - 1)) (omega arith) i (objects_within k s (p + 1) (room - 1) i)))
+      (λ t. word_within s at judge_atom l refl judged_atom)
 
-  pub objects-within : (k : ℕ) (s : List ℕ) (at room : ℕ) → at ≤ length s → Within s at (read_objs k s at room)
-  objects-within zero s at room l = spent s
-  objects-within (suc k) s at room l =
-      meets_then (object-within k s at room l) (λ x e q. after-object-within s at x e (λ a. read_objs k s a room) q (λ i. objects-within k s (place_from s e + 1) room i))
+  pub objects_within : (k : ℕ) (s : List ℕ) (at room : ℕ) → at ≤ length s → Within s at (read_objs k s at room)
+  objects_within zero s at room l = spent s
+  objects_within (suc k) s at room l =
+      meets_then (object_within k s at room l) (λ x e q. after_object_within s at x e (λ a. read_objs k s a room) q (λ i. objects_within k s (place_from s e + 1) room i))
 
-pub objects-refused : ObjectsRefused
+pub objects_refused : ObjectsRefused
 unfolding read_object at_end
-objects-refused s n p h =
-    no_meets {Q = λ x e. Unit {0}} (meets_then (object-within (calls s) s 0 mark_limit (omega arith)) (λ x e q.
-    meets_cond (eqb (place_from s e) (length s)) (λ t. meets tt) (λ t. refused-within s (place_from s e) (place-within s e q.inside)))) h
+objects_refused s n p h =
+    no_meets {Q = λ x e. Unit {0}} (meets_then (object_within (calls s) s 0 mark_limit (omega arith)) (λ x e q.
+    meets_cond (eqb (place_from s e) (length s)) (λ t. meets tt) (λ t. refused_within s (place_from s e) (place_within s e q.inside)))) h
 
 -- ---- forms
 
@@ -195,110 +195,110 @@ module _ (s : List ℕ) (at : ℕ) where
   closed b x e n q =
       let o = place_on s e in
       let l = q.behind in
-      mark-reads s b e (λ a. got x a) n q.inside (λ i. meets (record { behind = omega arith; inside = i }))
+      mark_reads s b e (λ a. got x a) n q.inside (λ i. meets (record { behind = omega arith; inside = i }))
 
-  after-part-within : (f : Form) (e : ℕ) (r : ℕ → Got Forms) → Ends s at e → (place_from s e + 1 ≤ length s → Within s (place_from s e + 1) (r (place_from s e + 1))) → Within s at (after_part s f e r)
+  after_part_within : (f : Form) (e : ℕ) (r : ℕ → Got Forms) → Ends s at e → (place_from s e + 1 ≤ length s → Within s (place_from s e + 1) (r (place_from s e + 1))) → Within s at (after_part s f e r)
   unfolding after_part
-  after-part-within f e r q h =
+  after_part_within f e r q h =
       let p = place_from s e in
       let o = place_on s e in
       let b = q.behind in
       meets_cond (eqb (byte_at s p) (code "."))
-      (λ t. meets_then (h (mark-within s p (code ".") (omega arith) t)) (λ fs e₁ q₁. meets (later s at (p + 1) e₁ (omega arith) q₁)))
+      (λ t. meets_then (h (mark_within s p (code ".") (omega arith) t)) (λ fs e₁ q₁. meets (later s at (p + 1) e₁ (omega arith) q₁)))
       (λ t. meets q)
 
-  after-parts-within : (f : Form) (e : ℕ) (r : ℕ → Got Forms) → Ends s at e → (place_from s e + 1 ≤ length s → Within s (place_from s e + 1) (r (place_from s e + 1))) → Within s at (after_parts s f e r)
+  after_parts_within : (f : Form) (e : ℕ) (r : ℕ → Got Forms) → Ends s at e → (place_from s e + 1 ≤ length s → Within s (place_from s e + 1) (r (place_from s e + 1))) → Within s at (after_parts s f e r)
   unfolding after_parts
-  after-parts-within f e r q h =
+  after_parts_within f e r q h =
       let p = place_from s e in
       let o = place_on s e in
       let b = q.behind in
       meets_cond (eqb (byte_at s p) (code "."))
-      (λ t. meets_then (h (mark-within s p (code ".") (omega arith) t)) (λ fs e₁ q₁. meets (later s at (p + 1) e₁ (omega arith) q₁)))
+      (λ t. meets_then (h (mark_within s p (code ".") (omega arith) t)) (λ fs e₁ q₁. meets (later s at (p + 1) e₁ (omega arith) q₁)))
       (λ t. meets q)
 
-  after-form-within : (f : Form) (e : ℕ) (r : ℕ → Got Forms) → Ends s at e → (place_from s e + 1 ≤ length s → Within s (place_from s e + 1) (r (place_from s e + 1))) → Within s at (after_form s f e r)
+  after_form_within : (f : Form) (e : ℕ) (r : ℕ → Got Forms) → Ends s at e → (place_from s e + 1 ≤ length s → Within s (place_from s e + 1) (r (place_from s e + 1))) → Within s at (after_form s f e r)
   unfolding after_form
-  after-form-within f e r q h =
+  after_form_within f e r q h =
       let p = place_from s e in
       let o = place_on s e in
       let b = q.behind in
       meets_cond (eqb (byte_at s p) (code ","))
-      (λ t. meets_then (h (mark-within s p (code ",") (omega arith) t)) (λ fs e₁ q₁. meets (later s at (p + 1) e₁ (omega arith) q₁)))
+      (λ t. meets_then (h (mark_within s p (code ",") (omega arith) t)) (λ fs e₁ q₁. meets (later s at (p + 1) e₁ (omega arith) q₁)))
       (λ t. meets_cond (eqb (byte_at s p) (code "]"))
-      (λ u. meets (record { behind = omega arith; inside = mark-within s p (code "]") (omega arith) u }))
-      (λ u. refused-within s p (place-within s e q.inside)))
+      (λ u. meets (record { behind = omega arith; inside = mark_within s p (code "]") (omega arith) u }))
+      (λ u. refused_within s p (place_within s e q.inside)))
 
-  after-test-within : (f : Form) (e : ℕ) (r : ℕ → Got Form) → Ends s at e → ((a : ℕ) → a ≤ length s → Within s a (r a)) → Within s at (after_test s f e r)
+  after_test_within : (f : Form) (e : ℕ) (r : ℕ → Got Form) → Ends s at e → ((a : ℕ) → a ≤ length s → Within s a (r a)) → Within s at (after_test s f e r)
   unfolding after_test
-  after-test-within f e r q h =
+  after_test_within f e r q h =
       let p = place_from s e in
       let o = place_on s e in
       let b = q.behind in
       meets_cond (eqb (byte_at s p) (code "-") && eqb (byte_at s (p + 1)) (code ">"))
       (λ t.
-      let i = mark-within s (p + 1) (code ">") (omega arith) ((and-eq-true_iff (eqb (byte_at s p) (code "-")) (eqb (byte_at s (p + 1)) (code ">"))).0 t).1 in
+      let i = mark_within s (p + 1) (code ">") (omega arith) ((and-eq-true_iff (eqb (byte_at s p) (code "-")) (eqb (byte_at s (p + 1)) (code ">"))).0 t).1 in
       meets_then (h (p + 2) (omega arith)) (λ g e₁ q₁.
       let o₁ = place_on s e₁ in
       let b₁ = q₁.behind in
-      mark-reads s (code ";") e₁ (λ a. and_then (r a) (λ g₁ e. mark (code ")") s e (λ a. got (condition f g g₁) a))) (omega arith) q₁.inside
+      mark_reads s (code ";") e₁ (λ a. and_then (r a) (λ g₁ e. mark (code ")") s e (λ a. got (condition f g g₁) a))) (omega arith) q₁.inside
       (λ j. meets_then (h (place_from s e₁ + 1) j) (λ g₁ e₂ q₂. closed (code ")") (condition f g g₁) e₂ (omega arith) (later s at (place_from s e₁ + 1) e₂ (omega arith) q₂)))))
       (λ t. meets_cond (eqb (byte_at s p) (code "?"))
-      (λ u. meets_then (h (p + 1) (mark-within s p (code "?") (omega arith) u)) (λ g e₁ q₁. closed (code ")") (while f g) e₁ (omega arith) (later s at (p + 1) e₁ (omega arith) q₁)))
+      (λ u. meets_then (h (p + 1) (mark_within s p (code "?") (omega arith) u)) (λ g e₁ q₁. closed (code ")") (while f g) e₁ (omega arith) (later s at (p + 1) e₁ (omega arith) q₁)))
       (λ u. meets_cond (eqb (byte_at s p) (code ")"))
-      (λ v. meets (record { behind = omega arith; inside = mark-within s p (code ")") (omega arith) v }))
-      (λ v. refused-within s p (place-within s e q.inside))))
+      (λ v. meets (record { behind = omega arith; inside = mark_within s p (code ")") (omega arith) v }))
+      (λ v. refused_within s p (place_within s e q.inside))))
 
 mutual
   unfolding read_part judge_part
 
-  pub form-within : (k : ℕ) (s : List ℕ) (at room : ℕ) → at ≤ length s → Within s at (read_form k s at room)
-  form-within zero s at room l = spent s
-  form-within (suc k) s at room l =
-      meets_then (part-within k s at room l) (λ f e q. after-part-within s at f e (λ a. read_parts k s a room) q (λ i. parts_within k s (place_from s e + 1) room i))
+  pub form_within : (k : ℕ) (s : List ℕ) (at room : ℕ) → at ≤ length s → Within s at (read_form k s at room)
+  form_within zero s at room l = spent s
+  form_within (suc k) s at room l =
+      meets_then (part_within k s at room l) (λ f e q. after_part_within s at f e (λ a. read_parts k s a room) q (λ i. parts_within k s (place_from s e + 1) room i))
 
   pub parts_within : (k : ℕ) (s : List ℕ) (at room : ℕ) → at ≤ length s → Within s at (read_parts k s at room)
   parts_within zero s at room l = spent s
   parts_within (suc k) s at room l =
-      meets_then (part-within k s at room l) (λ f e q. after-parts-within s at f e (λ a. read_parts k s a room) q (λ i. parts_within k s (place_from s e + 1) room i))
+      meets_then (part_within k s at room l) (λ f e q. after_parts_within s at f e (λ a. read_parts k s a room) q (λ i. parts_within k s (place_from s e + 1) room i))
 
-  pub forms-within : (k : ℕ) (s : List ℕ) (at room : ℕ) → at ≤ length s → Within s at (read_forms k s at room)
-  forms-within zero s at room l = spent s
-  forms-within (suc k) s at room l =
-      meets_then (form-within k s at room l) (λ f e q. after-form-within s at f e (λ a. read_forms k s a room) q (λ i. forms-within k s (place_from s e + 1) room i))
+  pub forms_within : (k : ℕ) (s : List ℕ) (at room : ℕ) → at ≤ length s → Within s at (read_forms k s at room)
+  forms_within zero s at room l = spent s
+  forms_within (suc k) s at room l =
+      meets_then (form_within k s at room l) (λ f e q. after_form_within s at f e (λ a. read_forms k s a room) q (λ i. forms_within k s (place_from s e + 1) room i))
 
-  pub part-within : (k : ℕ) (s : List ℕ) (at room : ℕ) → at ≤ length s → Within s at (read_part k s at room)
-  part-within zero s at room l = spent s
-  part-within (suc k) s at room l =
+  pub part_within : (k : ℕ) (s : List ℕ) (at room : ℕ) → at ≤ length s → Within s at (read_part k s at room)
+  part_within zero s at room l = spent s
+  part_within (suc k) s at room l =
       let p = place_from s at in
       let b = byte_at s p in
       let a = p + 1 in
       let o = place_on s at in
-      let i = place-within s at l in
+      let i = place_within s at l in
       let la : at ≤ a = omega arith in
       meets_cond (eqb b (code "["))
-      (λ t. opens-reads s p room (λ a. and_then (read_forms k s a (room - 1)) (λ fs e. got (construct fs) e)) i
-      (meets_then (forms-within k s a (room - 1) (mark-within s p (code "[") (omega arith) t)) (λ fs e q. meets (later s at a e la q))))
+      (λ t. opens_reads s p room (λ a. and_then (read_forms k s a (room - 1)) (λ fs e. got (construct fs) e)) i
+      (meets_then (forms_within k s a (room - 1) (mark_within s p (code "[") (omega arith) t)) (λ fs e q. meets (later s at a e la q))))
       (λ t. meets_cond (eqb b (code "%"))
-      (λ t. opens-reads s p room (λ a. and_then (read_obj k s a (room - 1)) (λ x e. got (constant x) e)) i
-      (meets_then (object-within k s a (room - 1) (mark-within s p (code "%") (omega arith) t)) (λ x e q. meets (later s at a e la q))))
+      (λ t. opens_reads s p room (λ a. and_then (read_obj k s a (room - 1)) (λ x e. got (constant x) e)) i
+      (meets_then (object_within k s a (room - 1) (mark_within s p (code "%") (omega arith) t)) (λ x e q. meets (later s at a e la q))))
       (λ t. meets_cond (eqb b (code "/"))
-      (λ t. opens-reads s p room (λ a. and_then (read_part k s a (room - 1)) (λ f e. got (insert f) e)) i
-      (meets_then (part-within k s a (room - 1) (mark-within s p (code "/") (omega arith) t)) (λ f e q. meets (later s at a e la q))))
+      (λ t. opens_reads s p room (λ a. and_then (read_part k s a (room - 1)) (λ f e. got (insert f) e)) i
+      (meets_then (part_within k s a (room - 1) (mark_within s p (code "/") (omega arith) t)) (λ f e q. meets (later s at a e la q))))
       (λ t. meets_cond (eqb b (code "@"))
-      (λ t. opens-reads s p room (λ a. and_then (read_part k s a (room - 1)) (λ f e. got (apply_all f) e)) i
-      (meets_then (part-within k s a (room - 1) (mark-within s p (code "@") (omega arith) t)) (λ f e q. meets (later s at a e la q))))
+      (λ t. opens_reads s p room (λ a. and_then (read_part k s a (room - 1)) (λ f e. got (apply_all f) e)) i
+      (meets_then (part_within k s a (room - 1) (mark_within s p (code "@") (omega arith) t)) (λ f e q. meets (later s at a e la q))))
       (λ t. meets_cond (eqb b (code "{"))
-      (λ t. opens-reads s p room (λ a. and_then (read_part k s a (room - 1)) (λ f e. mark (code ",") s e (λ a. and_then (read_obj k s a (room - 1)) (λ x e. mark (code "}") s e (λ a. got (bu f x) a))))) i
-      (meets_then (part-within k s a (room - 1) (mark-within s p (code "{") (omega arith) t)) (λ f e q.
+      (λ t. opens_reads s p room (λ a. and_then (read_part k s a (room - 1)) (λ f e. mark (code ",") s e (λ a. and_then (read_obj k s a (room - 1)) (λ x e. mark (code "}") s e (λ a. got (bu f x) a))))) i
+      (meets_then (part_within k s a (room - 1) (mark_within s p (code "{") (omega arith) t)) (λ f e q.
       let o₁ = place_on s e in
       let b₁ = q.behind in
-      mark-reads s (code ",") e (λ a. and_then (read_obj k s a (room - 1)) (λ x e. mark (code "}") s e (λ a. got (bu f x) a))) (omega arith) q.inside
-      (λ j. meets_then (object-within k s (place_from s e + 1) (room - 1) j) (λ x e₁ q₁. closed s at (code "}") (bu f x) e₁ (omega arith) (later s at (place_from s e + 1) e₁ (omega arith) q₁))))))
+      mark_reads s (code ",") e (λ a. and_then (read_obj k s a (room - 1)) (λ x e. mark (code "}") s e (λ a. got (bu f x) a))) (omega arith) q.inside
+      (λ j. meets_then (object_within k s (place_from s e + 1) (room - 1) j) (λ x e₁ q₁. closed s at (code "}") (bu f x) e₁ (omega arith) (later s at (place_from s e + 1) e₁ (omega arith) q₁))))))
       (λ t. meets_cond (eqb b (code "("))
-      (λ t. opens-reads s p room (λ a. and_then (read_form k s a (room - 1)) (λ f e. after_test s f e (λ a. read_form k s a (room - 1)))) i
-      (meets_then (form-within k s a (room - 1) (mark-within s p (code "(") (omega arith) t)) (λ f e q. after-test-within s at f e (λ a. read_form k s a (room - 1)) (later s at a e la q) (λ c j. form-within k s c (room - 1) j))))
-      (λ t. word-within s at judge_part l refl judged_part))))))
+      (λ t. opens_reads s p room (λ a. and_then (read_form k s a (room - 1)) (λ f e. after_test s f e (λ a. read_form k s a (room - 1)))) i
+      (meets_then (form_within k s a (room - 1) (mark_within s p (code "(") (omega arith) t)) (λ f e q. after_test_within s at f e (λ a. read_form k s a (room - 1)) (later s at a e la q) (λ c j. form_within k s c (room - 1) j))))
+      (λ t. word_within s at judge_part l refl judged_part))))))
 
 -- ---- programs
 
@@ -316,36 +316,36 @@ unfolding definition_at
 definition_within k s at p w e l q =
     let o = place_on s e in
     let b = q.behind in
-    mark-reads s (code "=") e (λ a. and_then (read_form k s a mark_limit) (λ f e. mark (code ";") s e (λ a. got (record { place = p; def = record { called = w; body = f } }) a))) (omega arith) q.inside
-    (λ i. meets_then (form-within k s (place_from s e + 1) mark_limit i) (λ f e₁ q₁.
+    mark_reads s (code "=") e (λ a. and_then (read_form k s a mark_limit) (λ f e. mark (code ";") s e (λ a. got (record { place = p; def = record { called = w; body = f } }) a))) (omega arith) q.inside
+    (λ i. meets_then (form_within k s (place_from s e + 1) mark_limit i) (λ f e₁ q₁.
     let o₁ = place_on s e₁ in
     let b₁ = q₁.behind in
-    mark-reads s (code ";") e₁ (λ a. got (record { place = p; def = record { called = w; body = f } }) a) (omega arith) q₁.inside
+    mark_reads s (code ";") e₁ (λ a. got (record { place = p; def = record { called = w; body = f } }) a) (omega arith) q₁.inside
     (λ j. meets (record { ends = record { behind = omega arith; inside = j }; placed = l }))))
 
 -- a definition from its name on
-pub first-within : (k : ℕ) (s : List ℕ) (at : ℕ) → at ≤ length s
+pub first_within : (k : ℕ) (s : List ℕ) (at : ℕ) → at ≤ length s
     → Reads s (DefinitionEnds s at) (and_then (as_judged s (place_from s at) (judge_name (word_at s (place_from s at)))) (λ w e. definition_at k s (place_from s at) w e))
 unfolding judge_name
-first-within k s at l =
-    meets_then (word-within s at judge_name l refl judged_name) (λ w e q. definition_within k s at (place_from s at) w e (place-within s at l) q)
+first_within k s at l =
+    meets_then (word_within s at judge_name l refl judged_name) (λ w e q. definition_within k s at (place_from s at) w e (place_within s at l) q)
 
-pub definitions-within : (k : ℕ) (s : List ℕ) (at : ℕ) → at ≤ length s → Reads s (λ ds e. AllPlaced s ds) (read_definitions k s at)
+pub definitions_within : (k : ℕ) (s : List ℕ) (at : ℕ) → at ≤ length s → Reads s (λ ds e. AllPlaced s ds) (read_definitions k s at)
 unfolding read_definitions
-definitions-within zero s at l = spent s
-definitions-within (suc k) s at l =
+definitions_within zero s at l = spent s
+definitions_within (suc k) s at l =
     meets_cond (eqb (place_from s at) (length s)) (λ t. meets none)
-    (λ t. meets_then (first-within k s at l) (λ d e q. meets_then (definitions-within k s e q.ends.inside) (λ ds e₁ qs. meets (more q.placed qs))))
+    (λ t. meets_then (first_within k s at l) (λ d e q. meets_then (definitions_within k s e q.ends.inside) (λ ds e₁ qs. meets (more q.placed qs))))
 
 abbrev Any : Prog → ℕ → Type 0
 Any P e = Unit {0}
 
-none_twice-within : (s : List ℕ) (earlier : List (List ℕ)) (ds : List Placed) (good : Got Prog) → AllPlaced s ds → Outcome (Refusal s 11) Any good → Outcome (Refusal s 11) Any (none_twice earlier ds good)
+none_twice_within : (s : List ℕ) (earlier : List (List ℕ)) (ds : List Placed) (good : Got Prog) → AllPlaced s ds → Outcome (Refusal s 11) Any good → Outcome (Refusal s 11) Any (none_twice earlier ds good)
 unfolding none_twice
-none_twice-within s earlier [] good none h = h
-none_twice-within s earlier (d ∷ ds) good (more l q) h =
+none_twice_within s earlier [] good none h = h
+none_twice_within s earlier (d ∷ ds) good (more l q) h =
     meets_cond (is_in d.def.called earlier) (λ t. refuses_by {n = 11} (record { low = omega arith; high = omega arith; within = l }))
-    (λ t. none_twice-within s (d.def.called ∷ earlier) ds good q h)
+    (λ t. none_twice_within s (d.def.called ∷ earlier) ds good q h)
 
 higher : {A : Type 0} {Q : A → ℕ → Type 0} (s : List ℕ) {r : Got A} → Reads s Q r → Outcome (Refusal s 11) Q r
 higher s (meets q) = meets q
@@ -357,7 +357,7 @@ higher s (refuses_by h) = refuses_by (record { low = h.low; high = widen h.high;
 pub programs_refused : ProgramsRefused
 unfolding read_program within_limits
 programs_refused s n p h =
-    no_meets (meets_then (higher s (definitions-within (calls s) s 0 (omega arith))) (λ ds e q.
+    no_meets (meets_then (higher s (definitions_within (calls s) s 0 (omega arith))) (λ ds e q.
     let P = program_of ds in
     meets_cond (ltb 2048 (forms_of P) || ltb 128 (length P)) (λ t. refuses_by {n = 10} {p = 0} (record { low = omega arith; high = omega arith; within = omega arith }))
-    (λ t. none_twice-within s [] ds (got P e) q (meets tt)))) h
+    (λ t. none_twice_within s [] ds (got P e) q (meets tt)))) h

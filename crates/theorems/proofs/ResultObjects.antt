@@ -14,10 +14,10 @@ use Rattle.language.specs.Meanings.{WordAnswer}
 use Rattle.language.specs.Evaluation.{lookup, done, run}
 use Rattle.language.specs.Accepted.{IsObj, AreObjs, IsForm, AreForms, AreDefinitions}
 use Rattle.theorems.specs.Results.{ResultsAreObjects}
-use Rattle.theorems.proofs.MeaningObjects.{Given, given_is, word-given}
+use Rattle.theorems.proofs.MeaningObjects.{Given, given_is, word_given}
 use Rattle.theorems.proofs.Accepted.{accepted_means}
 use Rattle.theorems.proofs.Reached.{ran_sound}
-use Rattle.theorems.proofs.Ends.{Job, just, parts, items, each, fold, loop, Result, object, bottom, Ends, word-bottom, word-object, name-bottom, name_in, chain_in, construct-object, construct-bottom, constant_in, insert_fold, insert-nil, insert_int, insert-symbol, apply_all-object, apply_all-bottom, apply_all_int, apply_all-symbol, bu_in, condition-bottom, condition_no, condition_T, condition-F, while_in, parts-stop, parts-bottom, parts_go, items_stop, items_bottom, items_late, items_go, each_nil, each_bottom, each_late, each_go, fold_one, fold_bottom, fold_go, loop_bottom, loop_no, loop_F, loop_fell, loop_go}
+use Rattle.theorems.proofs.Ends.{Job, just, parts, items, each, fold, loop, Result, object, bottom, Ends, word_bottom, word_object, name_bottom, name_in, chain_in, construct_object, construct_bottom, constant_in, insert_fold, insert-nil, insert_int, insert_symbol, apply_all_object, apply_all_bottom, apply_all_int, apply_all_symbol, bu_in, condition_bottom, condition_no, condition_T, condition_F, while_in, parts_stop, parts_bottom, parts_go, items_stop, items_bottom, items_late, items_go, each_nil, each_bottom, each_late, each_go, fold_one, fold_bottom, fold_go, loop_bottom, loop_no, loop_F, loop_fell, loop_go}
 
 -- the forms and objects of a job are such as texts hold
 abbrev IsJob : Job → Type 0
@@ -39,9 +39,9 @@ data Found : Option Form → Type 0 where
 found_is : {b : Form} → Found (some b) → IsForm b
 found_is (found h) = h
 
-lookup-found : (w : List ℕ) (P : Prog) → AreDefinitions P → Found (lookup w P)
-lookup-found w [] h = not_found
-lookup-found w (d ∷ ds) h = go (same_bytes w d.called) (lookup-found w ds h.2)
+lookup_found : (w : List ℕ) (P : Prog) → AreDefinitions P → Found (lookup w P)
+lookup_found w [] h = not_found
+lookup_found w (d ∷ ds) h = go (same_bytes w d.called) (lookup_found w ds h.2)
   where
     go : (t : Bool) → Found (lookup w ds) → Found (elim t as (λ (t : Bool). Option Form) [ true ↦ some d.body | false ↦ lookup w ds ])
     go true i = found h.1
@@ -49,30 +49,30 @@ lookup-found w (d ∷ ds) h = go (same_bytes w d.called) (lookup-found w ds h.2)
 
 module _ (e : Edition) (P : Prog) (defs : AreDefinitions P) where
   pub keeps : {d : ℕ} {j : Job} {r : Result} {s c : ℕ} → Ends e P d j r s c → IsJob j → IsResult r
-  keeps (word-bottom m) h = tt
-  keeps (word-object {w = w} {x = x} m) h = given_is (subst (λ (a : WordAnswer). Given a) m (word-given e w x h.1))
-  keeps (name-bottom m) h = tt
-  keeps (name_in {w = w} m D) h = keeps D (found_is (subst (λ (o : Option Form). Found o) m (lookup-found w P defs)), h.1)
+  keeps (word_bottom m) h = tt
+  keeps (word_object {w = w} {x = x} m) h = given_is (subst (λ (a : WordAnswer). Given a) m (word_given e w x h.1))
+  keeps (name_bottom m) h = tt
+  keeps (name_in {w = w} m D) h = keeps D (found_is (subst (λ (o : Option Form). Found o) m (lookup_found w P defs)), h.1)
   keeps (chain_in D) h = keeps D (h.0.1, h.1)
-  keeps (construct-object D) h = keeps D (h.0.1, h.1)
-  keeps (construct-bottom D) h = tt
+  keeps (construct_object D) h = keeps D (h.0.1, h.1)
+  keeps (construct_bottom D) h = tt
   keeps constant_in h = h.0
   keeps (insert_fold D) h = keeps D (h.0, h.1.0, h.1.1)
   keeps insert-nil h = tt
   keeps insert_int h = tt
-  keeps insert-symbol h = tt
-  keeps (apply_all-object D) h = keeps D (h.0, h.1)
-  keeps (apply_all-bottom D) h = tt
+  keeps insert_symbol h = tt
+  keeps (apply_all_object D) h = keeps D (h.0, h.1)
+  keeps (apply_all_bottom D) h = tt
   keeps apply_all_int h = tt
-  keeps apply_all-symbol h = tt
+  keeps apply_all_symbol h = tt
   keeps (bu_in D) h = keeps D (h.0.0, (h.0.1, (h.1, tt)))
-  keeps (condition-bottom D) h = tt
+  keeps (condition_bottom D) h = tt
   keeps (condition_no D m) h = tt
   keeps (condition_T D m E) h = keeps E (h.0.1, h.1)
-  keeps (condition-F D m E) h = keeps E (h.0.2, h.1)
+  keeps (condition_F D m E) h = keeps E (h.0.2, h.1)
   keeps (while_in D) h = keeps D (h.0.0, h.0.1, h.1)
-  keeps parts-stop h = h.1
-  keeps (parts-bottom D) h = tt
+  keeps parts_stop h = h.1
+  keeps (parts_bottom D) h = tt
   keeps (parts_go D E) h = keeps E (h.0.0, keeps D (h.0.1, h.1))
   keeps items_stop h = tt
   keeps (items_bottom D) h = tt

@@ -9,6 +9,6 @@ use Rattle.language.specs.Meanings.{are_rows, column_at, columns_at}
 use Rattle.language.specs.Answers.{run_call}
 use Rattle.theorems.specs.Rows.{StarredRows}
 
-pub starred-rows : StarredRows
+pub starred_rows : StarredRows
 unfolding run_call read_program read_definitions definition_at within_limits none_twice is_in read_form after_part after_parts after_form after_test read_object read_obj at_end after_object inside_sequence opens mark refused refusal_of judge_name judge_part word_form judge_selector judge_atom judge_negative judge_integer value_from judge_word dash_size size_at size place_from span digits decimal write_integer write_obj write_word write_form write_program scan are_rows column_at columns_at nth_obj
-starred-rows = refl
+starred_rows = refl

@@ -16,7 +16,7 @@ use Rattle.language.specs.Judging.{all, is_symbol_byte}
 use Rattle.language.specs.Writing.{decimal, write_integer, write_obj, write_objs, write_more_objs, marks_of_obj, marks_of_objs, on, short, deep, open_behind, scan}
 use Rattle.language.specs.Accepted.{IsSymbol, IsObj, AreObjs}
 use Rattle.theorems.proofs.Texts.{all_cons, digit_range, upper_range, upper_symbol, or_cases}
-use Rattle.theorems.proofs.Decimals.{decimal-digits}
+use Rattle.theorems.proofs.Decimals.{decimal_digits}
 
 -- ---- one byte
 
@@ -51,30 +51,30 @@ scan-length (b ∷ s) opened room o r h =
     omega (arith, g.fits)
 
 -- and with any other room that the text fits into, the scan goes on to the end too
-pub scan-fits : (s : List ℕ) (opened room room' o r : ℕ) → scan s opened room ≡ on o r → length s ≤ room' → scan s opened room' ≡ on o (room' - length s)
+pub scan_fits : (s : List ℕ) (opened room room' o r : ℕ) → scan s opened room ≡ on o r → length s ≤ room' → scan s opened room' ≡ on o (room' - length s)
 unfolding scan
-scan-fits [] opened room room' o r h l =
+scan_fits [] opened room room' o r h l =
     let e : opened ≡ o = cc in
     let f : room' ≡ room' - 0 = omega arith in
     λ i. on (e i) (f i)
-scan-fits (b ∷ s) opened room room' o r h l =
+scan_fits (b ∷ s) opened room room' o r h l =
     let g = goes b s opened room o r h in
     let f : room' - 1 - length s ≡ room' - suc (length s) = omega arith in
-    rw (g.opens, ne_eqb room' 0 (omega arith)) (scan-fits s (open_behind b opened) (room - 1) (room' - 1) o r g.rest (omega arith) ∙ ap (λ (k : ℕ). on o k) f)
+    rw (g.opens, ne_eqb room' 0 (omega arith)) (scan_fits s (open_behind b opened) (room - 1) (room' - 1) o r g.rest (omega arith) ∙ ap (λ (k : ℕ). on o k) f)
 
 -- ---- bytes that open and close nothing
 
-plain-behind : (b d : ℕ) → (b ≡ 60 → ⊥) → (b ≡ 62 → ⊥) → open_behind b d ≡ d
-plain-behind b d h g = rw (ne_eqb b 60 h, ne_eqb b 62 g)
+plain_behind : (b d : ℕ) → (b ≡ 60 → ⊥) → (b ≡ 62 → ⊥) → open_behind b d ≡ d
+plain_behind b d h g = rw (ne_eqb b 60 h, ne_eqb b 62 g)
 
 digit_behind : (b d : ℕ) → is_digit b ≡ true → open_behind b d ≡ d
-digit_behind b d h = let r = (digit_range b h).1 in plain-behind b d (λ e. omega arith) (λ e. omega arith)
+digit_behind b d h = let r = (digit_range b h).1 in plain_behind b d (λ e. omega arith) (λ e. omega arith)
 
 upper_behind : (b d : ℕ) → is_upper b ≡ true → open_behind b d ≡ d
-upper_behind b d h = let r = (upper_range b h).0 in plain-behind b d (λ e. omega arith) (λ e. omega arith)
+upper_behind b d h = let r = (upper_range b h).0 in plain_behind b d (λ e. omega arith) (λ e. omega arith)
 
-symbol-behind : (b d : ℕ) → is_symbol_byte b ≡ true → open_behind b d ≡ d
-symbol-behind b d h =
+symbol_behind : (b d : ℕ) → is_symbol_byte b ≡ true → open_behind b d ≡ d
+symbol_behind b d h =
     let o = open_behind b d in
     eqb-true o d (or_cases (is_upper b) (is_digit b) (eqb o d) (λ u. eq-eqb o d (upper_behind b d u)) (λ t. eq-eqb o d (digit_behind b d t)) h)
 
@@ -97,17 +97,17 @@ class_past test f (b ∷ a) s opened room o r t l h =
 
 integer_past : (z : ℤ) (s : List ℕ) (opened room o r : ℕ) → opened ≤ 32 → scan (write_integer z ++ s) opened room ≡ on o r → Past (length (write_integer z)) 0 s opened opened room o r
 unfolding write_integer
-integer_past (pos n) s opened room o r l h = class_past is_digit digit_behind (decimal n) s opened room o r (decimal-digits n) l h
+integer_past (pos n) s opened room o r l h = class_past is_digit digit_behind (decimal n) s opened room o r (decimal_digits n) l h
 integer_past (negsuc n) s opened room o r l h =
     let w = decimal (suc n) in
     let g = goes 45 (w ++ s) opened room o r h in
-    let i = class_past is_digit digit_behind w s opened (room - 1) o r (decimal-digits (suc n)) l g.rest in
+    let i = class_past is_digit digit_behind w s opened (room - 1) o r (decimal_digits (suc n)) l g.rest in
     let e : room - 1 - length w ≡ room - suc (length w) = omega arith in
     record { few = omega arith; rest = rw e at i.rest }
 
-symbol-past : (w : List ℕ) → IsSymbol w → (s : List ℕ) (opened room o r : ℕ) → opened ≤ 32 → scan (w ++ s) opened room ≡ on o r → Past (length w) 0 s opened opened room o r
-symbol-past [] i s opened room o r l h = absurd i
-symbol-past (b ∷ a) i s opened room o r l h = class_past is_symbol_byte symbol-behind (b ∷ a) s opened room o r (all_cons is_symbol_byte b a (upper_symbol b i.0) i.1) l h
+symbol_past : (w : List ℕ) → IsSymbol w → (s : List ℕ) (opened room o r : ℕ) → opened ≤ 32 → scan (w ++ s) opened room ≡ on o r → Past (length w) 0 s opened opened room o r
+symbol_past [] i s opened room o r l h = absurd i
+symbol_past (b ∷ a) i s opened room o r l h = class_past is_symbol_byte symbol_behind (b ∷ a) s opened room o r (all_cons is_symbol_byte b a (upper_symbol b i.0) i.1) l h
 
 -- an object, and what is written behind it
 next_past : (x : Obj) (xs : Objs) (s : List ℕ) (opened room o r : ℕ)
@@ -126,7 +126,7 @@ mutual
 
   obj_past : (x : Obj) → IsObj x → (s : List ℕ) (opened room o r : ℕ) → opened ≤ 32 → scan (write_obj x ++ s) opened room ≡ on o r → Past (length (write_obj x)) (marks_of_obj x) s opened opened room o r
   obj_past (int z) h s opened room o r l g = integer_past z s opened room o r l g
-  obj_past (symbol w) h s opened room o r l g = symbol-past w h s opened room o r l g
+  obj_past (symbol w) h s opened room o r l g = symbol_past w h s opened room o r l g
   obj_past (seq xs) h s opened room o r l g =
       let q = goes 60 (write_objs xs ++ s) opened room o r g in
       let k = leb-false 32 opened q.opens in
@@ -137,16 +137,16 @@ mutual
 
   objs_past : (xs : Objs) → AreObjs xs → (s : List ℕ) (opened room o r : ℕ) → 1 ≤ opened → opened ≤ 32 → scan (write_objs xs ++ s) opened room ≡ on o r → Past (length (write_objs xs)) (marks_of_objs xs) s opened (opened - 1) room o r
   objs_past nil h s opened room o r n l g = record { few = omega arith; rest = (goes 62 s opened room o r g).rest }
-  objs_past (x :: xs) h s opened room o r n l g = next_past x xs s opened room o r (λ t a u. obj_past x h.0 t opened a o r l u) (λ a u. more-past xs h.1 s opened a o r n l u) g
+  objs_past (x :: xs) h s opened room o r n l g = next_past x xs s opened room o r (λ t a u. obj_past x h.0 t opened a o r l u) (λ a u. more_past xs h.1 s opened a o r n l u) g
 
-  more-past : (xs : Objs) → AreObjs xs → (s : List ℕ) (opened room o r : ℕ) → 1 ≤ opened → opened ≤ 32 → scan (write_more_objs xs ++ s) opened room ≡ on o r → Past (length (write_more_objs xs)) (marks_of_objs xs) s opened (opened - 1) room o r
-  more-past nil h s opened room o r n l g = record { few = omega arith; rest = (goes 62 s opened room o r g).rest }
-  more-past (x :: xs) h s opened room o r n l g =
+  more_past : (xs : Objs) → AreObjs xs → (s : List ℕ) (opened room o r : ℕ) → 1 ≤ opened → opened ≤ 32 → scan (write_more_objs xs ++ s) opened room ≡ on o r → Past (length (write_more_objs xs)) (marks_of_objs xs) s opened (opened - 1) room o r
+  more_past nil h s opened room o r n l g = record { few = omega arith; rest = (goes 62 s opened room o r g).rest }
+  more_past (x :: xs) h s opened room o r n l g =
       let q = goes 44 ((write_obj x ++ write_more_objs xs) ++ s) opened room o r g in
-      let i = next_past x xs s opened (room - 1) o r (λ t a u. obj_past x h.0 t opened a o r l u) (λ a u. more-past xs h.1 s opened a o r n l u) q.rest in
+      let i = next_past x xs s opened (room - 1) o r (λ t a u. obj_past x h.0 t opened a o r l u) (λ a u. more_past xs h.1 s opened a o r n l u) q.rest in
       let e : room - 1 - length (write_obj x ++ write_more_objs xs) ≡ room - suc (length (write_obj x ++ write_more_objs xs)) = omega arith in
       record { few = i.few; rest = rw e at i.rest }
 
 -- A text that is written whole has at most 32 marks open at once.
-pub scan-marks : (x : Obj) → IsObj x → (room o r : ℕ) → scan (write_obj x) 0 room ≡ on o r → marks_of_obj x ≤ 32
-scan-marks x h room o r g = let q = obj_past x h [] 0 room o r (omega arith) (ap (λ (t : List ℕ). scan t 0 room) (append-nil (write_obj x)) ∙ g) in omega (arith, q.few)
+pub scan_marks : (x : Obj) → IsObj x → (room o r : ℕ) → scan (write_obj x) 0 room ≡ on o r → marks_of_obj x ≤ 32
+scan_marks x h room o r g = let q = obj_past x h [] 0 room o r (omega arith) (ap (λ (t : List ℕ). scan t 0 room) (append-nil (write_obj x)) ∙ g) in omega (arith, q.few)

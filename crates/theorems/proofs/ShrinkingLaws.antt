@@ -4,7 +4,7 @@ use Prim.Native.Nat.{ℕ, zero, suc, ◌+◌, ◌≤◌, ◌<◌}
 use mathlib.Core.Path.{◌≡◌, refl, sym, subst}
 use mathlib.Core.Option.{Option, some, none}
 use native.Mathlib.Omega.{arith}
-use Rattle.language.specs.Objects.{Obj, Truth, truth_of, isT, isF, neither}
+use Rattle.language.specs.Objects.{Obj, Truth, truth_of, is_T, is_F, neither}
 use Rattle.language.specs.Words.{Op}
 use Rattle.language.specs.Forms.{Form, word, chain, construct, constant, bu, condition, Forms, stop, ◌&◌, op, ◌+&◌, count, forms_in, forms_in_all, constant_cells}
 use Rattle.language.specs.Forms.{constant_cells_all}
@@ -13,11 +13,11 @@ use Rattle.language.specs.Laws.{harmless, all_harmless, on_construct, on_constan
 use Rattle.language.specs.Laws.{fit10, on_split, on_ending_in, ending_in, rewrite3, rewrite4, rewrite9, rewrite11, New, form_of, closed, in_chain, Law, law1, law2, law3, law4, law5, law6, law7, law8, law9}
 use Rattle.language.specs.Laws.{law10, law11, at_root}
 use Rattle.language.specs.Accepted.{OneOrMore, IsForm, AreForms}
-use Rattle.theorems.proofs.Inversions.{some_inj, none-some, chain-made, construct-made, constant-made, condition-made, selector_made, two, two_or_more, something, when_true, when-same, split}
+use Rattle.theorems.proofs.Inversions.{some_inj, none_some, chain_made, construct_made, constant_made, condition_made, selector_made, two, two_or_more, something, when_true, when_same_lem, split}
 use Rattle.theorems.proofs.Inversions.{ends_in, Ending, none_more, one_more, ending, PutIn, one_part, its_parts, put_in}
-use Rattle.theorems.proofs.FormCounts.{forms_in_all-append, constant_cells_all-append, count-append, form-counted}
+use Rattle.theorems.proofs.FormCounts.{forms_in_all-append, constant_cells_all-append, count-append, form_counted}
 use Rattle.theorems.proofs.Anywhere.{chain_law, whole_law}
-use Rattle.theorems.proofs.WrittenLengths.{brackets, form_bytes, dotted_bytes, forms_bytes, comma_bytes, at_most_two, form-written, dotted_put}
+use Rattle.theorems.proofs.WrittenLengths.{brackets, form_bytes, dotted_bytes, forms_bytes, comma_bytes, at_most_two, form_written, dotted_put}
 
 -- ---- what a use does
 
@@ -94,11 +94,11 @@ of_shape {fs} {fs'} {gs} {gs'} e u r = subst (λ (hs : Forms). PartsShrink 1 hs 
 -- a part goes away
 one_less : (f : Form) (fs : Forms) → PartsShrink 1 (f & fs) fs
 one_less f fs ok =
-    record { parts = omega arith; forms = omega (arith, form-counted f); cells = omega arith; bytes = omega arith; are_forms = ok.1 }
+    record { parts = omega arith; forms = omega (arith, form_counted f); cells = omega arith; bytes = omega arith; are_forms = ok.1 }
 
 fits1 : (fs gs : Forms) → fit1 fs ≡ some gs → PartsShrink 1 fs gs
-fits1 stop gs u = none-some u
-fits1 (f & fs) gs u = of_shape refl (when-same f (word (op Op.id)) (some fs) gs u).1 (one_less f fs)
+fits1 stop gs u = none_some u
+fits1 (f & fs) gs u = of_shape refl (when_same_lem f (word (op Op.id)) (some fs) gs u).1 (one_less f fs)
 
 law2_shrinks : {ps qs : Forms} (hs fs : Forms) → ps ≡ chain hs & fs → some (hs +& fs) ≡ some qs → PartsShrink 1 ps qs
 law2_shrinks hs fs e u = of_shape e u λ ok.
@@ -112,9 +112,9 @@ law2_shrinks hs fs e u = of_shape e u λ ok.
     }
 
 fits2 : (fs gs : Forms) → fit2 fs ≡ some gs → PartsShrink 1 fs gs
-fits2 stop gs u = none-some u
+fits2 stop gs u = none_some u
 fits2 (f & fs) gs u =
-    let M = chain-made f (λ hs. some (hs +& fs)) gs u in
+    let M = chain_made f (λ hs. some (hs +& fs)) gs u in
     law2_shrinks M.of fs (cc M.is) M.gives
 
 law5_shrinks : {ps qs : Forms} (f g : Form) (x : Obj) (rest : Forms) →
@@ -133,9 +133,9 @@ law5_shrinks f g x rest e u = of_shape e u λ ok.
 fits5 : (fs gs : Forms) → fit5 fs ≡ some gs → PartsShrink 1 fs gs
 fits5 fs gs u =
     let T = two_or_more fs (λ f h rest. on_construct h (λ hs. on_two hs (λ c g. on_constant c (λ x. some (bu f x & join_in g rest))))) gs u in
-    let M = construct-made T.g (λ hs. on_two hs (λ c g. on_constant c (λ x. some (bu T.f x & join_in g T.rest)))) gs T.gives in
+    let M = construct_made T.g (λ hs. on_two hs (λ c g. on_constant c (λ x. some (bu T.f x & join_in g T.rest)))) gs T.gives in
     let D = two M.of (λ c g. on_constant c (λ x. some (bu T.f x & join_in g T.rest))) gs M.gives in
-    let X = constant-made D.f (λ x. some (bu T.f x & join_in D.g T.rest)) gs D.gives in
+    let X = constant_made D.f (λ x. some (bu T.f x & join_in D.g T.rest)) gs D.gives in
     law5_shrinks T.f D.g X.of T.rest (cc (T.is, M.is, D.is, X.is)) X.gives
 
 -- one of a construction's forms
@@ -146,7 +146,7 @@ record OneOf (g : Form) (gs : Forms) : Type 0 where
   is_form : IsForm g
 
 is_chosen : (j : ℕ) (gs : Forms) (g : Form) → chosen j gs ≡ some g → AreForms gs → OneOf g gs
-is_chosen j stop g u ok = none-some u
+is_chosen j stop g u ok = none_some u
 is_chosen zero (f & fs) g u ok =
     let w = when_true (all_harmless fs) (some f) g u in
     subst (λ (h : Form). OneOf h (f & fs)) (some_inj w.1) (record { forms = omega arith; cells = omega arith; bytes = omega arith; is_form = ok.0 })
@@ -175,7 +175,7 @@ fits6 : (fs gs : Forms) → fit6 fs ≡ some gs → PartsShrink 1 fs gs
 fits6 fs gs u =
     let T = two_or_more fs (λ f h rest. on_selector f (λ before. on_construct h (λ hs. on_some (before (count hs)) (λ j. on_some (chosen j hs) (λ g. some (join_in g rest)))))) gs u in
     let S = selector_made T.f (λ before. on_construct T.g (λ hs. on_some (before (count hs)) (λ j. on_some (chosen j hs) (λ g. some (join_in g T.rest))))) gs T.gives in
-    let M = construct-made T.g (λ hs. on_some (S.before (count hs)) (λ j. on_some (chosen j hs) (λ g. some (join_in g T.rest)))) gs S.gives in
+    let M = construct_made T.g (λ hs. on_some (S.before (count hs)) (λ j. on_some (chosen j hs) (λ g. some (join_in g T.rest)))) gs S.gives in
     let J = something (S.before (count M.of)) (λ j. on_some (chosen j M.of) (λ g. some (join_in g T.rest))) gs M.gives in
     let G = something (chosen J.of M.of) (λ g. some (join_in g T.rest)) gs J.gives in
     law6_shrinks T.f G.of M.of T.rest J.of (cc (T.is, M.is)) G.is G.gives
@@ -185,7 +185,7 @@ law7_shrinks : {ps qs : Forms} (f f1 f2 : Form) (more rest : Forms) →
 law7_shrinks f f1 f2 more rest e u = of_shape e u λ ok.
     record {
       parts = omega arith;
-      forms = omega (arith, form-counted f);
+      forms = omega (arith, form_counted f);
       cells = omega arith;
       bytes = omega arith;
       are_forms = ((tt, ok.1.0.1.1), ok.1.1);
@@ -194,8 +194,8 @@ law7_shrinks f f1 f2 more rest e u = of_shape e u λ ok.
 fits7 : (fs gs : Forms) → fit7 fs ≡ some gs → PartsShrink 1 fs gs
 fits7 fs gs u =
     let T = two_or_more fs (λ f h rest. when_same f (word (op Op.tl)) (on_construct h (λ hs. on_two_or_more hs (λ f1 f2 more. when (harmless f1) (some (construct (f2 & more) & rest)))))) gs u in
-    let W = when-same T.f (word (op Op.tl)) (on_construct T.g (λ hs. on_two_or_more hs (λ f1 f2 more. when (harmless f1) (some (construct (f2 & more) & T.rest))))) gs T.gives in
-    let M = construct-made T.g (λ hs. on_two_or_more hs (λ f1 f2 more. when (harmless f1) (some (construct (f2 & more) & T.rest)))) gs W.1 in
+    let W = when_same_lem T.f (word (op Op.tl)) (on_construct T.g (λ hs. on_two_or_more hs (λ f1 f2 more. when (harmless f1) (some (construct (f2 & more) & T.rest))))) gs T.gives in
+    let M = construct_made T.g (λ hs. on_two_or_more hs (λ f1 f2 more. when (harmless f1) (some (construct (f2 & more) & T.rest)))) gs W.1 in
     let D = two_or_more M.of (λ f1 f2 more. when (harmless f1) (some (construct (f2 & more) & T.rest))) gs M.gives in
     let H = when_true (harmless D.f) (some (construct (D.g & D.rest) & T.rest)) gs D.gives in
     law7_shrinks T.f D.f D.g D.rest T.rest (cc (T.is, M.is, D.is)) H.1
@@ -207,7 +207,7 @@ law8_shrinks x f rest e u = of_shape e u (behind 1 (constant x) (f & rest) rest 
 fits8 : (fs gs : Forms) → fit8 fs ≡ some gs → PartsShrink 1 fs gs
 fits8 fs gs u =
     let T = two_or_more fs (λ c f rest. on_constant c (λ x. when (harmless f) (some (constant x & rest)))) gs u in
-    let X = constant-made T.f (λ x. when (harmless T.g) (some (constant x & T.rest))) gs T.gives in
+    let X = constant_made T.f (λ x. when (harmless T.g) (some (constant x & T.rest))) gs T.gives in
     let H = when_true (harmless T.g) (some (constant X.of & T.rest)) gs X.gives in
     law8_shrinks X.of T.g T.rest (cc (T.is, X.is)) H.1
 
@@ -216,7 +216,7 @@ law10_shrinks : {ps qs : Forms} (a f : Form) (gs rest : Forms) →
 law10_shrinks a f gs rest e u = of_shape e u λ ok.
     record {
       parts = omega arith;
-      forms = omega (arith, form-counted a);
+      forms = omega (arith, form_counted a);
       cells = omega arith;
       bytes = omega (arith, commas gs);
       are_forms = ((tt, (ok.1.0.1.0, ok.1.0.1.1.0.1)), ok.1.1);
@@ -225,10 +225,10 @@ law10_shrinks a f gs rest e u = of_shape e u λ ok.
 fits10 : (fs gs : Forms) → fit10 fs ≡ some gs → PartsShrink 1 fs gs
 fits10 fs gs u =
     let T = two_or_more fs (λ a h rest. when_same a (word (op Op.apndl)) (on_construct h (λ hs. on_two hs (λ f g. on_construct g (λ gs. some (construct (f & gs) & rest)))))) gs u in
-    let W = when-same T.f (word (op Op.apndl)) (on_construct T.g (λ hs. on_two hs (λ f g. on_construct g (λ gs. some (construct (f & gs) & T.rest))))) gs T.gives in
-    let M = construct-made T.g (λ hs. on_two hs (λ f g. on_construct g (λ gs. some (construct (f & gs) & T.rest)))) gs W.1 in
+    let W = when_same_lem T.f (word (op Op.apndl)) (on_construct T.g (λ hs. on_two hs (λ f g. on_construct g (λ gs. some (construct (f & gs) & T.rest))))) gs T.gives in
+    let M = construct_made T.g (λ hs. on_two hs (λ f g. on_construct g (λ gs. some (construct (f & gs) & T.rest)))) gs W.1 in
     let D = two M.of (λ f g. on_construct g (λ gs. some (construct (f & gs) & T.rest))) gs M.gives in
-    let G = construct-made D.g (λ gs. some (construct (D.f & gs) & T.rest)) gs D.gives in
+    let G = construct_made D.g (λ gs. some (construct (D.f & gs) & T.rest)) gs D.gives in
     law10_shrinks T.f D.f G.of T.rest (cc (T.is, M.is, D.is, G.is)) G.gives
 
 -- ---- laws that take a construction or a condition
@@ -266,7 +266,7 @@ end_taken_out {h} (one_more f (one_more g {fs = more} e)) many ok =
     let s = without_ends e ok.1.1.1 in
     let j = has_put h stop okh tt in
     let d = dotted_put h stop okh in
-    let w = form-written h okh in
+    let w = form_written h okh in
     record {
       forms = omega arith;
       cells = omega arith;
@@ -281,7 +281,7 @@ law3_shrinks h cs fs e many v u = whole_shape e u (end_taken_out (ending h cs fs
 
 rewrites3 : (f g : Form) → rewrite3 f ≡ some g → Shrinks f g
 rewrites3 c g u =
-    let M = construct-made c (λ cs. on_two_or_more cs (λ c1 c2 more. on_split c1 (λ f1 h. on_some (ending_in h cs) (λ fs. some (chain (construct fs & join_in h stop)))))) g u in
+    let M = construct_made c (λ cs. on_two_or_more cs (λ c1 c2 more. on_split c1 (λ f1 h. on_some (ending_in h cs) (λ fs. some (chain (construct fs & join_in h stop)))))) g u in
     let T = two_or_more M.of (λ c1 c2 more. on_split c1 (λ f1 h. on_some (ending_in h M.of) (λ fs. some (chain (construct fs & join_in h stop))))) g M.gives in
     let S = split T.f (λ f1 h. on_some (ending_in h M.of) (λ fs. some (chain (construct fs & join_in h stop)))) g T.gives in
     let E = something (ending_in S.h M.of) (λ fs. some (chain (construct fs & join_in S.h stop))) g S.gives in
@@ -304,31 +304,31 @@ law4_shrinks p f g h e u = whole_shape e u λ ok.
 
 rewrites4 : (f g : Form) → rewrite4 f ≡ some g → Shrinks f g
 rewrites4 c z u =
-    let M = condition-made c (λ ph fh gh. on_split ph (λ p h. on_ending_in h fh (λ f. on_ending_in h gh (λ g. some (chain (condition p f g & join_in h stop)))))) z u in
+    let M = condition_made c (λ ph fh gh. on_split ph (λ p h. on_ending_in h fh (λ f. on_ending_in h gh (λ g. some (chain (condition p f g & join_in h stop)))))) z u in
     let S = split M.p (λ p h. on_ending_in h M.f (λ f. on_ending_in h M.g (λ g. some (chain (condition p f g & join_in h stop))))) z M.gives in
     let E = ends_in S.h M.f (λ f. on_ending_in S.h M.g (λ g. some (chain (condition S.f f g & join_in S.h stop)))) z S.gives in
     let D = ends_in S.h M.g (λ g. some (chain (condition S.f E.f g & join_in S.h stop))) z E.gives in
     law4_shrinks S.f E.f D.f S.h (cc (M.is, S.is, E.is, D.is)) D.gives
 
 -- one of a condition's two forms
-law9-then : (p f g : Form) → Shrinks (condition p f g) f
-law9-then p f g ok =
+law9_then : (p f g : Form) → Shrinks (condition p f g) f
+law9_then p f g ok =
     record { forms = omega arith; cells = omega arith; bytes = omega arith; bracketed = omega (arith, at_most_two f); is_form = ok.1 }
 
-law9-else : (p f g : Form) → Shrinks (condition p f g) g
-law9-else p f g ok =
+law9_else : (p f g : Form) → Shrinks (condition p f g) g
+law9_else p f g ok =
     record { forms = omega arith; cells = omega arith; bytes = omega arith; bracketed = omega (arith, at_most_two g); is_form = ok.2 }
 
 rewrites9 : (f g : Form) → rewrite9 f ≡ some g → Shrinks f g
 rewrites9 c z u =
-    let M = condition-made c (λ p f g. on_constant p (λ x. elim (truth_of x) [ isT ↦ some f | isF ↦ some g | neither ↦ none ])) z u in
-    let X = constant-made M.p (λ x. elim (truth_of x) [ isT ↦ some M.f | isF ↦ some M.g | neither ↦ none ]) z M.gives in
+    let M = condition_made c (λ p f g. on_constant p (λ x. elim (truth_of x) [ is_T ↦ some f | is_F ↦ some g | neither ↦ none ])) z u in
+    let X = constant_made M.p (λ x. elim (truth_of x) [ is_T ↦ some M.f | is_F ↦ some M.g | neither ↦ none ]) z M.gives in
     go M.p M.f M.g (truth_of X.of) M.is X.gives
   where
-    go : (p f g : Form) (t : Truth) → c ≡ condition p f g → elim t as (λ (t : Truth). Option Form) [ isT ↦ some f | isF ↦ some g | neither ↦ none ] ≡ some z → Shrinks c z
-    go p f g isT e v = whole_shape e v (law9-then p f g)
-    go p f g isF e v = whole_shape e v (law9-else p f g)
-    go p f g neither e v = none-some v
+    go : (p f g : Form) (t : Truth) → c ≡ condition p f g → elim t as (λ (t : Truth). Option Form) [ is_T ↦ some f | is_F ↦ some g | neither ↦ none ] ≡ some z → Shrinks c z
+    go p f g is_T e v = whole_shape e v (law9_then p f g)
+    go p f g is_F e v = whole_shape e v (law9_else p f g)
+    go p f g neither e v = none_some v
 
 law11_shrinks : {c z : Form} (p f g h : Form) → c ≡ condition p (condition p f g) h → some (condition p f h) ≡ some z → Shrinks c z
 law11_shrinks p f g h e u = whole_shape e u λ ok.
@@ -336,9 +336,9 @@ law11_shrinks p f g h e u = whole_shape e u λ ok.
 
 rewrites11 : (f g : Form) → rewrite11 f ≡ some g → Shrinks f g
 rewrites11 c z u =
-    let M = condition-made c (λ p i h. on_condition i (λ q f g. when_same q p (some (condition p f h)))) z u in
-    let N = condition-made M.f (λ q f g. when_same q M.p (some (condition M.p f M.g))) z M.gives in
-    let W = when-same N.p M.p (some (condition M.p N.f M.g)) z N.gives in
+    let M = condition_made c (λ p i h. on_condition i (λ q f g. when_same q p (some (condition p f h)))) z u in
+    let N = condition_made M.f (λ q f g. when_same q M.p (some (condition M.p f M.g))) z M.gives in
+    let W = when_same_lem N.p M.p (some (condition M.p N.f M.g)) z N.gives in
     law11_shrinks M.p N.f N.g M.g (cc (M.is, N.is, W.0)) W.1
 
 -- ---- every law at its own form

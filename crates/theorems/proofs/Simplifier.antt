@@ -16,7 +16,7 @@ use Rattle.language.specs.Laws.{form_of, Law, law1, law2, law3, law4, law5, law6
 use Rattle.language.specs.Uses.{within, use_at, with_body, use_in, apply_law, laws, lowest, least, Simplified, simplify_by, simplify}
 use Rattle.theorems.specs.Demand3.{Uses, no_use, use_then}
 use Rattle.theorems.specs.Simplifier.{NoneAt, NoneOf, First, FirstUses, none_left, first_then, Simplifies, SimplifierUses, NoneAfter}
-use Rattle.theorems.proofs.Inversions.{none-some}
+use Rattle.theorems.proofs.Inversions.{none_some}
 use Rattle.theorems.proofs.Refines.{fewer}
 
 -- ---- no law applies at a place that no form has
@@ -35,9 +35,9 @@ none_beyond P i h l = ap (λ (o : Option Prog). on_some o (λ Q. when (leb (mark
 
 -- ---- where the search finds nothing
 
-both-none : {A : Type 0} (o q : Option A) → Path (Option A) (elim o as (λ (o : Option A). Option A) [ some R ↦ some R | none ↦ q ]) none → (o ≡ none) × (q ≡ none)
-both-none (some a) q u = none-some (sym u)
-both-none none q u = (refl, u)
+both_none : {A : Type 0} (o q : Option A) → Path (Option A) (elim o as (λ (o : Option A). Option A) [ some R ↦ some R | none ↦ q ]) none → (o ≡ none) × (q ≡ none)
+both_none (some a) q u = none_some (sym u)
+both_none none q u = (refl, u)
 
 data In (l : Law) : List Law → Type 0 where
   first : {ls : List Law} → In l (l ∷ ls)
@@ -58,8 +58,8 @@ in_laws law11 = later (later (later (later (later (later (later (later (later (l
 
 no_law : {l : Law} {ls : List Law} (i : ℕ) (P : Prog) → In l ls → lowest ls i P ≡ none → apply_law l i P ≡ none
 no_law {l} {ls = []} i P x u = elim x [ ]
-no_law {l} {ls = k ∷ ls} i P first u = (both-none (apply_law l i P) (lowest ls i P) u).0
-no_law {l} {ls = k ∷ ls} i P (later h) u = no_law i P h (both-none (apply_law k i P) (lowest ls i P) u).1
+no_law {l} {ls = k ∷ ls} i P first u = (both_none (apply_law l i P) (lowest ls i P) u).0
+no_law {l} {ls = k ∷ ls} i P (later h) u = no_law i P h (both_none (apply_law k i P) (lowest ls i P) u).1
 
 none_at : (i : ℕ) (P : Prog) → lowest laws i P ≡ none → NoneAt i P
 none_at i P u l = no_law i P (in_laws l) u
@@ -79,7 +79,7 @@ none_left_lem zero i P h k u j = go (leb i j) refl
     go true t = none_beyond P j (omega (arith, leb-true i j t))
     go false t = k j (leb-false i j t)
 none_left_lem (suc n) i P h k u j =
-    let t = both-none (lowest laws i P) (least n (suc i) P) u in
+    let t = both_none (lowest laws i P) (least n (suc i) P) u in
     none_left_lem n (suc i) P (omega arith) (none_before i P k (none_at i P t.0)) t.1 j
 
 -- ---- what the search finds
@@ -90,29 +90,29 @@ record Lowest (ls : List Law) (i : ℕ) (P Q : Prog) : Type 0 where
   lower : List Law
   higher : List Law
   among : ls ≡ lower ++ law ∷ higher
-  none-lower : NoneOf lower i P
+  none_lower : NoneOf lower i P
 
 lowest_law : (ls : List Law) (i : ℕ) (P Q : Prog) → lowest ls i P ≡ some Q → Lowest ls i P Q
-lowest_law [] i P Q u = none-some u
+lowest_law [] i P Q u = none_some u
 lowest_law (l ∷ ls) i P Q u = go (apply_law l i P) refl u (λ v. lowest_law ls i P Q v)
   where
     go : (o : Option Prog) → apply_law l i P ≡ o → elim o as (λ (o : Option Prog). Option Prog) [ some R ↦ some R | none ↦ lowest ls i P ] ≡ some Q
         → (lowest ls i P ≡ some Q → Lowest ls i P Q) → Lowest (l ∷ ls) i P Q
-    go (some R) v u k = record { law = l; gives = v ∙ u; lower = []; higher = ls; among = refl; none-lower = tt }
+    go (some R) v u k = record { law = l; gives = v ∙ u; lower = []; higher = ls; among = refl; none_lower = tt }
     go none v u k =
         let K = k u in
-        record { law = K.law; gives = K.gives; lower = l ∷ K.lower; higher = K.higher; among = ap (λ (ks : List Law). l ∷ ks) K.among; none-lower = (v, K.none-lower) }
+        record { law = K.law; gives = K.gives; lower = l ∷ K.lower; higher = K.higher; among = ap (λ (ks : List Law). l ∷ ks) K.among; none_lower = (v, K.none_lower) }
 
-least-place : (n i : ℕ) (P Q : Prog) → ((j : ℕ) → j < i → NoneAt j P) → least n i P ≡ some Q → First P Q
-least-place zero i P Q k u = none-some u
-least-place (suc n) i P Q k u = go (lowest laws i P) refl u (λ k v. least-place n (suc i) P Q k v)
+least_place : (n i : ℕ) (P Q : Prog) → ((j : ℕ) → j < i → NoneAt j P) → least n i P ≡ some Q → First P Q
+least_place zero i P Q k u = none_some u
+least_place (suc n) i P Q k u = go (lowest laws i P) refl u (λ k v. least_place n (suc i) P Q k v)
   where
     go : (o : Option Prog) → lowest laws i P ≡ o
         → elim o as (λ (o : Option Prog). Option Prog) [ some R ↦ some R | none ↦ least n (suc i) P ] ≡ some Q
         → (((j : ℕ) → j < suc i → NoneAt j P) → least n (suc i) P ≡ some Q → First P Q) → First P Q
     go (some R) v u r =
         let L = lowest_law laws i P Q (v ∙ u) in
-        record { law = L.law; place = i; gives = L.gives; least = k; lower = L.lower; higher = L.higher; among = L.among; lowest = L.none-lower }
+        record { law = L.law; place = i; gives = L.gives; least = k; lower = L.lower; higher = L.higher; among = L.among; lowest = L.none_lower }
     go none v u r = r (none_before i P k (none_at i P v)) u
 
 -- ---- the rounds
@@ -130,7 +130,7 @@ by_rounds (suc n) u P h = go (least (forms_of P) 0 P) refl (λ Q l. by_rounds n 
         → Rounds u P (elim o as (λ (o : Option Prog). Simplified) [ some Q ↦ simplify_by n (suc u) Q | none ↦ record { program = P; uses = u } ])
     go none v k = record { n = 0; counted = omega arith; series = none_left (none_left_lem (forms_of P) 0 P (omega arith) (λ j t. absurd (omega arith)) v) }
     go (some Q) v k =
-        let F = least-place (forms_of P) 0 P Q (λ j t. absurd (omega arith)) v in
+        let F = least_place (forms_of P) 0 P Q (λ j t. absurd (omega arith)) v in
         let K = k Q (omega (arith, fewer F.law F.place P Q F.gives)) in
         record { n = suc K.n; counted = omega (arith, K.counted); series = first_then F K.series }
 
@@ -147,9 +147,9 @@ uses_of (first_then F U) = use_then F.law F.place F.gives (uses_of U)
 pub simplifier_uses : SimplifierUses
 simplifier_uses P = uses_of (simplifies P)
 
-none-behind : {P Q : Prog} {n : ℕ} → FirstUses P Q n → (i : ℕ) → NoneAt i Q
-none-behind (none_left k) = k
-none-behind (first_then F U) = none-behind U
+none_behind : {P Q : Prog} {n : ℕ} → FirstUses P Q n → (i : ℕ) → NoneAt i Q
+none_behind (none_left k) = k
+none_behind (first_then F U) = none_behind U
 
 pub none_after : NoneAfter
-none_after P i = none-behind (simplifies P) i
+none_after P i = none_behind (simplifies P) i

@@ -8,13 +8,13 @@ use native.Mathlib.Omega.{arith}
 use lib.Dec.{leb}
 use borrow.Author.Tests.{leb-true}
 use Rattle.language.specs.declared.Meter.{Meter}
-use Rattle.language.specs.Objects.{Obj, int, symbol, seq, Objs, nil, ◌::◌, length_of, Truth, truth_of, isT, isF, neither}
+use Rattle.language.specs.Objects.{Obj, int, symbol, seq, Objs, nil, ◌::◌, length_of, Truth, truth_of, is_T, is_F, neither}
 use Rattle.language.specs.Forms.{Word, Form, word, name, chain, construct, constant, insert, apply_all, bu, condition, while, Forms, stop, ◌&◌, Prog}
 use Rattle.language.specs.Numbers.{Edition}
 use Rattle.language.specs.Meanings.{WordAnswer, falls, gives, meaning, pair}
 use Rattle.language.specs.Charging.{take_cells, with_names}
 use Rattle.language.specs.Evaluation.{Spent, Out, value, bottom as fallen, spent, bind, ask_step, ask_steps, ask_cells, close, ask_name, lookup, charged, Apply, chain_by, construct_by, each_by, insert_by, while_by, insert_on, apply_all_on, decide, gathered, inside, apply}
-use Rattle.theorems.proofs.Ends.{Job, just, parts, items, each, fold, loop, Result, object, bottom, Ends, recount, word-bottom, word-object, name-bottom, name_in, chain_in, construct-object, construct-bottom, constant_in, insert_fold, insert-nil, insert_int, insert-symbol, apply_all-object, apply_all-bottom, apply_all_int, apply_all-symbol, bu_in, condition-bottom, condition_no, condition_T, condition-F, while_in, parts-stop, parts-bottom, parts_go, items_stop, items_bottom, items_late, items_go, each_nil, each_bottom, each_late, each_go, fold_one, fold_bottom, fold_go, loop_bottom, loop_no, loop_F, loop_fell, loop_go}
+use Rattle.theorems.proofs.Ends.{Job, just, parts, items, each, fold, loop, Result, object, bottom, Ends, recount, word_bottom, word_object, name_bottom, name_in, chain_in, construct_object, construct_bottom, constant_in, insert_fold, insert-nil, insert_int, insert_symbol, apply_all_object, apply_all_bottom, apply_all_int, apply_all_symbol, bu_in, condition_bottom, condition_no, condition_T, condition_F, while_in, parts_stop, parts_bottom, parts_go, items_stop, items_bottom, items_late, items_go, each_nil, each_bottom, each_late, each_go, fold_one, fold_bottom, fold_go, loop_bottom, loop_no, loop_F, loop_fell, loop_go}
 
 module _ (e : Edition) (P : Prog) where
   -- from m, with a steps and b cells paid before, to m'
@@ -177,15 +177,15 @@ module _ (e : Edition) (P : Prog) where
   Good ap = (f : Form) (x : Obj) (m : Meter) → Explains 0 0 (just f x) m (ap f x m)
 
   module _ (ap : Apply) (g : Good ap) where
-    after-parts : (f : Form) {fs : Forms} {x : Obj} {m : Meter} {o : Out Obj} → Explains 0 0 (parts fs x) m o
+    after_parts_lem : (f : Form) {fs : Forms} {x : Obj} {m : Meter} {o : Out Obj} → Explains 0 0 (parts fs x) m o
         → Explains 0 0 (parts (f & fs) x) m (bind o (λ y m₁. ap f y m₁))
-    after-parts f (ex_object {v = y} {m' = m₁} E) = next E (λ r d s c D. parts_go E.ends D) (g f y m₁)
-    after-parts f (ex_bottom E) = ex_bottom (stop_at E (parts-bottom E.ends))
-    after-parts f ex_out = ex_out
+    after_parts_lem f (ex_object {v = y} {m' = m₁} E) = next E (λ r d s c D. parts_go E.ends D) (g f y m₁)
+    after_parts_lem f (ex_bottom E) = ex_bottom (stop_at E (parts_bottom E.ends))
+    after_parts_lem f ex_out = ex_out
 
     pub parts_sound : (fs : Forms) (x : Obj) (m : Meter) → Explains 0 0 (parts fs x) m (chain_by ap fs x m)
-    parts_sound stop x m = ex_object (at_once parts-stop)
-    parts_sound (f & fs) x m = after-parts f (parts_sound fs x m)
+    parts_sound stop x m = ex_object (at_once parts_stop)
+    parts_sound (f & fs) x m = after_parts_lem f (parts_sound fs x m)
 
     -- items and elements
     rest_items : {f : Form} {fs : Forms} {x y : Obj} {m m₁ : Meter} {o : Out Objs} → Spends 0 0 (just f x) (object y) m m₁
@@ -247,48 +247,48 @@ module _ (e : Edition) (P : Prog) where
     -- the branch that a truth value takes
     by_condition : {p f h : Form} {x b : Obj} {m m₁ : Meter} → Spends 0 0 (just p x) (object b) m m₁ → (t : Truth) → truth_of b ≡ t
         → Explains 1 0 (just (condition p f h) x) m (decide b m₁ (ap f x) (ap h x))
-    by_condition {f = f} {x = x} {m₁ = m₁} E isT t = rw (t, decide) (next⁺ E (λ r d s c D. condition_T E.ends t D) (g f x m₁))
-    by_condition {h = h} {x = x} {m₁ = m₁} E isF t = rw (t, decide) (next⁺ E (λ r d s c D. condition-F E.ends t D) (g h x m₁))
+    by_condition {f = f} {x = x} {m₁ = m₁} E is_T t = rw (t, decide) (next⁺ E (λ r d s c D. condition_T E.ends t D) (g f x m₁))
+    by_condition {h = h} {x = x} {m₁ = m₁} E is_F t = rw (t, decide) (next⁺ E (λ r d s c D. condition_F E.ends t D) (g h x m₁))
     by_condition E neither t = rw (t, decide) (ex_bottom (stop_at⁺ E (condition_no E.ends t)))
 
-    after-condition : {p f h : Form} {x : Obj} {m : Meter} {o : Out Obj} → Explains 0 0 (just p x) m o
+    after_condition : {p f h : Form} {x : Obj} {m : Meter} {o : Out Obj} → Explains 0 0 (just p x) m o
         → Explains 1 0 (just (condition p f h) x) m (bind o (λ b m₁. decide b m₁ (ap f x) (ap h x)))
-    after-condition (ex_object {v = b} E) = by_condition E (truth_of b) refl
-    after-condition (ex_bottom E) = ex_bottom (stop_at⁺ E (condition-bottom E.ends))
-    after-condition ex_out = ex_out
+    after_condition (ex_object {v = b} E) = by_condition E (truth_of b) refl
+    after_condition (ex_bottom E) = ex_bottom (stop_at⁺ E (condition_bottom E.ends))
+    after_condition ex_out = ex_out
 
     -- a round of while
-    after-body : {p f : Form} {x b : Obj} {m m₁ : Meter} {o : Out Obj} (k : Obj → Meter → Out Obj) → Spends 0 0 (just p x) (object b) m m₁
-        → truth_of b ≡ isT → ((y : Obj) (m₂ : Meter) → Explains 0 0 (loop p f y) m₂ (k y m₂)) → Explains 0 0 (just f x) m₁ o
+    after_body : {p f : Form} {x b : Obj} {m m₁ : Meter} {o : Out Obj} (k : Obj → Meter → Out Obj) → Spends 0 0 (just p x) (object b) m m₁
+        → truth_of b ≡ is_T → ((y : Obj) (m₂ : Meter) → Explains 0 0 (loop p f y) m₂ (k y m₂)) → Explains 0 0 (just f x) m₁ o
         → Explains 0 0 (loop p f x) m (bind o k)
-    after-body k E t h (ex_object {v = y} {m' = m₂} F) =
+    after_body k E t h (ex_object {v = y} {m' = m₂} F) =
         shift (from₂ E F) (lift (max E.d F.d) (E.s + F.s) (E.c + F.c) (omega (arith, E.fits, F.fits, E.names, F.names))
         (λ r d s c D. recount e P (omega arith) (omega arith) (omega arith) (loop_go E.ends t F.ends D)) (h y m₂))
-    after-body k E t h (ex_bottom F) = ex_bottom (both E F (loop_fell E.ends t F.ends))
-    after-body k E t h ex_out = ex_out
+    after_body k E t h (ex_bottom F) = ex_bottom (both E F (loop_fell E.ends t F.ends))
+    after_body k E t h ex_out = ex_out
 
     by_while : {p f : Form} {x b : Obj} {m m₁ : Meter} (k : Obj → Meter → Out Obj) → ((y : Obj) (m₂ : Meter) → Explains 0 0 (loop p f y) m₂ (k y m₂))
         → Spends 0 0 (just p x) (object b) m m₁ → (t : Truth) → truth_of b ≡ t
         → Explains 0 0 (loop p f x) m (decide b m₁ (λ m₂. bind (ap f x m₂) k) (λ m₂. value x m₂))
-    by_while {f = f} {x = x} {m₁ = m₁} k h E isT t = rw (t, decide) (after-body k E t h (g f x m₁))
-    by_while k h E isF t = rw (t, decide) (ex_object (stop_at E (loop_F E.ends t)))
+    by_while {f = f} {x = x} {m₁ = m₁} k h E is_T t = rw (t, decide) (after_body k E t h (g f x m₁))
+    by_while k h E is_F t = rw (t, decide) (ex_object (stop_at E (loop_F E.ends t)))
     by_while k h E neither t = rw (t, decide) (ex_bottom (stop_at E (loop_no E.ends t)))
 
-    after-test : {p f : Form} {x : Obj} {m : Meter} {o : Out Obj} (k : Obj → Meter → Out Obj)
+    after_test_lem : {p f : Form} {x : Obj} {m : Meter} {o : Out Obj} (k : Obj → Meter → Out Obj)
         → ((y : Obj) (m₂ : Meter) → Explains 0 0 (loop p f y) m₂ (k y m₂)) → Explains 0 0 (just p x) m o
         → Explains 0 0 (loop p f x) m (bind o (λ b m₁. decide b m₁ (λ m₂. bind (ap f x m₂) k) (λ m₂. value x m₂)))
-    after-test k h (ex_object {v = b} E) = by_while k h E (truth_of b) refl
-    after-test k h (ex_bottom E) = ex_bottom (stop_at E (loop_bottom E.ends))
-    after-test k h ex_out = ex_out
+    after_test_lem k h (ex_object {v = b} E) = by_while k h E (truth_of b) refl
+    after_test_lem k h (ex_bottom E) = ex_bottom (stop_at E (loop_bottom E.ends))
+    after_test_lem k h ex_out = ex_out
 
     loop_sound : (j : ℕ) (p f : Form) (x : Obj) (m : Meter) → Explains 0 0 (loop p f x) m (while_by ap j p f x m)
     loop_sound zero p f x m = ex_out
-    loop_sound (suc j) p f x m = after-test (λ y m₂. while_by ap j p f y m₂) (λ y m₂. loop_sound j p f y m₂) (g p x m)
+    loop_sound (suc j) p f x m = after_test_lem (λ y m₂. while_by ap j p f y m₂) (λ y m₂. loop_sound j p f y m₂) (g p x m)
 
     -- a name
-    spent-name : {n : ℕ} {w : List ℕ} {b : Form} {x : Obj} {r : Result} {m m' : Meter} → lookup w P ≡ some b → m.names ≡ suc n
+    spent_name : {n : ℕ} {w : List ℕ} {b : Form} {x : Obj} {r : Result} {m m' : Meter} → lookup w P ≡ some b → m.names ≡ suc n
         → Spends 0 0 (just b x) r (with_names n m) m' → Spends 1 0 (just (name w) x) r m (with_names (suc n) m')
-    spent-name h q E = record {
+    spent_name h q E = record {
       d = suc E.d;
       s = suc E.s;
       c = E.c;
@@ -301,8 +301,8 @@ module _ (e : Edition) (P : Prog) where
 
     closed : {n : ℕ} {w : List ℕ} {b : Form} {x : Obj} {m : Meter} {o : Out Obj} → lookup w P ≡ some b → m.names ≡ suc n
         → Explains 0 0 (just b x) (with_names n m) o → Explains 1 0 (just (name w) x) m (close (suc n) o)
-    closed h q (ex_object E) = ex_object (spent-name h q E)
-    closed h q (ex_bottom E) = ex_bottom (spent-name h q E)
+    closed h q (ex_object E) = ex_object (spent_name h q E)
+    closed h q (ex_bottom E) = ex_bottom (spent_name h q E)
     closed h q ex_out = ex_out
 
     by_name : {w : List ℕ} {b : Form} {x : Obj} (m : Meter) (n : ℕ) → lookup w P ≡ some b → m.names ≡ n → Explains 1 0 (just (name w) x) m (ask_name m (λ m₁. ap b x m₁))
@@ -311,37 +311,37 @@ module _ (e : Edition) (P : Prog) where
 
     by_lookup : {w : List ℕ} {x : Obj} (m : Meter) → (o : Option Form) → lookup w P ≡ o
         → Explains 1 0 (just (name w) x) m (elim o as (λ (o : Option Form). Out Obj) [ none ↦ fallen m | some b ↦ ask_name m (λ m₁. ap b x m₁) ])
-    by_lookup m none h = ex_bottom (at_once⁺ (name-bottom h))
+    by_lookup m none h = ex_bottom (at_once⁺ (name_bottom h))
     by_lookup m (some b) h = by_name m m.names h refl
 
     by_meaning : {w : Word} {x : Obj} (m : Meter) (a : WordAnswer) → meaning e w x ≡ a → Explains 1 0 (just (word w) x) m (charged a m)
-    by_meaning m falls h = ex_bottom (at_once⁺ (word-bottom h))
+    by_meaning m falls h = ex_bottom (at_once⁺ (word_bottom h))
     by_meaning m (gives s c v) h =
         steps_sound s m (λ m₁. ask_cells c m₁ (λ m₂. value v m₂)) (λ m₁.
-        cells_sound c m₁ (λ m₂. value v m₂) (λ m₂ u'. ex_object (at_cost (recount e P refl (omega arith) (omega arith) (word-object h)) (omega arith))))
+        cells_sound c m₁ (λ m₂. value v m₂) (λ m₂ u'. ex_object (at_cost (recount e P refl (omega arith) (omega arith) (word_object h)) (omega arith))))
 
     insert_sound : (f : Form) (x : Obj) (m : Meter) → Explains 1 0 (just (insert f) x) m (insert_on ap f x m)
     insert_sound f (int z) m = ex_bottom (at_once⁺ insert_int)
-    insert_sound f (symbol z) m = ex_bottom (at_once⁺ insert-symbol)
+    insert_sound f (symbol z) m = ex_bottom (at_once⁺ insert_symbol)
     insert_sound f (seq nil) m = ex_bottom (at_once⁺ insert-nil)
     insert_sound f (seq (x :: xs)) m = wrap (λ r d s c D. insert_fold D) (fold_sound f x xs m)
 
     apply_all_sound : (f : Form) (x : Obj) (m : Meter) → Explains 1 0 (just (apply_all f) x) m (apply_all_on ap f x m)
     apply_all_sound f (int z) m = ex_bottom (at_once⁺ apply_all_int)
-    apply_all_sound f (symbol z) m = ex_bottom (at_once⁺ apply_all-symbol)
-    apply_all_sound f (seq xs) m = shut (λ ys d s c D. apply_all-object D) (λ d s c D. apply_all-bottom D) (each_sound f xs m)
+    apply_all_sound f (symbol z) m = ex_bottom (at_once⁺ apply_all_symbol)
+    apply_all_sound f (seq xs) m = shut (λ ys d s c D. apply_all_object D) (λ d s c D. apply_all_bottom D) (each_sound f xs m)
 
     inside_sound : (n : ℕ) (f : Form) (x : Obj) (m : Meter) → Explains 1 0 (just f x) m (inside ap n e P f x m)
     inside_sound n (word w) x m = by_meaning m (meaning e w x) refl
     inside_sound n (name w) x m = by_lookup m (lookup w P) refl
     inside_sound n (chain fs) x m = wrap (λ r d s c D. chain_in D) (parts_sound fs x m)
-    inside_sound n (construct fs) x m = shut (λ ys d s c D. construct-object D) (λ d s c D. construct-bottom D) (items_sound fs x m)
+    inside_sound n (construct fs) x m = shut (λ ys d s c D. construct_object D) (λ d s c D. construct_bottom D) (items_sound fs x m)
     inside_sound n (constant y) x m = ex_object (at_once⁺ constant_in)
     inside_sound n (insert f) x m = insert_sound f x m
     inside_sound n (apply_all f) x m = apply_all_sound f x m
     inside_sound n (bu f y) x m =
         cells_sound 2 m (λ m₁. ap f (pair y x) m₁) (λ m₁ h. lift 0 1 (0 + 2) (omega arith) (λ r d s c D. recount e P (omega arith) (omega arith) (omega arith) (bu_in D)) (g f (pair y x) m₁))
-    inside_sound n (condition p f h) x m = after-condition (g p x m)
+    inside_sound n (condition p f h) x m = after_condition (g p x m)
     inside_sound n (while p f) x m = wrap (λ r d s c D. while_in D) (loop_sound n p f x m)
 
   pub sound : (n : ℕ) (f : Form) (x : Obj) (m : Meter) → Explains 0 0 (just f x) m (apply n e P f x m)

@@ -34,8 +34,8 @@ module _ (s : List ℕ) (p : ℕ) where
   pub drop_one : (b : ℕ) (l : List ℕ) → drop p s ≡ b ∷ l → drop (p + 1) s ≡ l
   drop_one b l e = rw (← (drop-drop 1 p s), e)
 
-  pub slice-here : (a l : List ℕ) → drop p s ≡ a ++ l → slice p (p + length a) s ≡ a
-  slice-here a l e = drop-take p (length a) s ∙ rw e (take-append_seam a l)
+  pub slice_here : (a l : List ℕ) → drop p s ≡ a ++ l → slice p (p + length a) s ≡ a
+  slice_here a l e = drop-take p (length a) s ∙ rw e (take-append_seam a l)
 
 pub place_end : (s : List ℕ) → place_from s (length s) ≡ length s
 unfolding place_from span
@@ -81,8 +81,8 @@ upper_range b h = let x = (and-eq-true_iff (leb 65 b) (leb b 90)).0 h in (leb-tr
 pub lower_range : (b : ℕ) → is_lower b ≡ true → (97 ≤ b) × (b ≤ 122)
 lower_range b h = let x = (and-eq-true_iff (leb 97 b) (leb b 122)).0 h in (leb-true 97 b x.0, leb-true b 122 x.1)
 
-pub not-blank : (b : ℕ) → 48 ≤ b → is_blank b ≡ false
-not-blank b h = rw (ne_eqb b 32 (omega arith), ne_eqb b 10 (omega arith))
+pub not_blank : (b : ℕ) → 48 ≤ b → is_blank b ≡ false
+not_blank b h = rw (ne_eqb b 32 (omega arith), ne_eqb b 10 (omega arith))
 
 pub above_no_digit : (b : ℕ) → 58 ≤ b → is_digit b ≡ false
 above_no_digit b h = rw (le-leb 48 b (omega arith), lt-leb b 57 (omega arith))
@@ -116,17 +116,17 @@ digit_word b h = or_left (is_digit b) (is_letter b) h
 pub letter_word : (b : ℕ) → is_letter b ≡ true → is_word_byte b ≡ true
 letter_word b h = or_right (is_digit b) (is_letter b) h
 
-pub symbol-word : (b : ℕ) → is_symbol_byte b ≡ true → is_word_byte b ≡ true
-symbol-word b h = or_cases (is_upper b) (is_digit b) (is_word_byte b) (λ u. letter_word b (upper_letter b u)) (digit_word b) h
+pub symbol_word : (b : ℕ) → is_symbol_byte b ≡ true → is_word_byte b ≡ true
+symbol_word b h = or_cases (is_upper b) (is_digit b) (is_word_byte b) (λ u. letter_word b (upper_letter b u)) (digit_word b) h
 
-pub name-word : (b : ℕ) → is_name_byte b ≡ true → is_word_byte b ≡ true
-name-word b h = or_cases (is_lower b) (is_digit b) (is_word_byte b) (λ u. letter_word b (lower_letter b u)) (digit_word b) h
+pub name_word : (b : ℕ) → is_name_byte b ≡ true → is_word_byte b ≡ true
+name_word b h = or_cases (is_lower b) (is_digit b) (is_word_byte b) (λ u. letter_word b (lower_letter b u)) (digit_word b) h
 
 pub upper_symbol : (b : ℕ) → is_upper b ≡ true → is_symbol_byte b ≡ true
 upper_symbol b h = or_left (is_upper b) (is_digit b) h
 
-pub lower-name : (b : ℕ) → is_lower b ≡ true → is_name_byte b ≡ true
-lower-name b h = or_left (is_lower b) (is_digit b) h
+pub lower_name : (b : ℕ) → is_lower b ≡ true → is_name_byte b ≡ true
+lower_name b h = or_left (is_lower b) (is_digit b) h
 
 -- ---- a word and what follows it
 
@@ -149,10 +149,10 @@ module _ (s : List ℕ) (p : ℕ) (l : List ℕ) (stops : span is_word_byte l �
 -- the word at a place is what is judged
 pub judged_here : {A : Type 0} (judge : List ℕ → Judged A) (a : A) (s : List ℕ) (p : ℕ) (w l : List ℕ) →
     drop p s ≡ w ++ l → size_at s p ≡ length w → judge w ≡ is a → as_judged s p (judge (word_at s p)) ≡ got a (p + length w)
-judged_here judge a s p w l e n j = rw (n, slice-here s p w l e, j, as_judged, n)
+judged_here judge a s p w l e n j = rw (n, slice_here s p w l e, j, as_judged, n)
 
 -- ---- marks
 
-pub mark-here : {A : Type 0} (c : ℕ) (s : List ℕ) (e : ℕ) (rest : ℕ → Got A) (l : List ℕ) → drop e s ≡ c ∷ l → is_blank c ≡ false → mark c s e rest ≡ rest (e + 1)
+pub mark_here : {A : Type 0} (c : ℕ) (s : List ℕ) (e : ℕ) (rest : ℕ → Got A) (l : List ℕ) → drop e s ≡ c ∷ l → is_blank c ≡ false → mark c s e rest ≡ rest (e + 1)
 unfolding mark
-mark-here c s e rest l d n = rw (place_here s e c l d n, byte_here s e c l d, eq-eqb c c refl)
+mark_here c s e rest l d n = rw (place_here s e c l d n, byte_here s e c l d, eq-eqb c c refl)

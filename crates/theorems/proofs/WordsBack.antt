@@ -16,8 +16,8 @@ use Rattle.language.specs.Tokens.{is_blank, is_digit, is_lower, is_word_byte, sp
 use Rattle.language.specs.Judging.{all, is_name_byte, is, value_of, is_selector, find_op, judge_selector, word_form, judge_part, judge_name, on_judged}
 use Rattle.language.specs.Writing.{decimal, write_word}
 use Rattle.language.specs.Accepted.{IsName, IsWord}
-use Rattle.theorems.proofs.Texts.{all_cons, all_append, all_weaken, span_all, span_none, span-nil, lower_no_digit, lower_letter, lower-name, name-word, or_right, size_word}
-use Rattle.theorems.proofs.Decimals.{decimal-digits, decimal-value, decimal-long, decimal-zero}
+use Rattle.theorems.proofs.Texts.{all_cons, all_append, all_weaken, span_all, span_none, span-nil, lower_no_digit, lower_letter, lower_name, name_word, or_right, size_word}
+use Rattle.theorems.proofs.Decimals.{decimal_digits, decimal_value, decimal_long, decimal-zero}
 use Rattle.theorems.proofs.Atoms.{word_judged}
 
 -- ---- words of letters
@@ -53,33 +53,33 @@ op_spelled distl = (refl, refl, lit≤ tt, refl)
 op_spelled distr = (refl, refl, lit≤ tt, refl)
 op_spelled trans = (refl, refl, lit≤ tt, refl)
 
-name-spelled : (w : List ℕ) → IsName w → Spelled w none
-name-spelled [] h = absurd h
-name-spelled (b ∷ w) h = h
+name_spelled : (w : List ℕ) → IsName w → Spelled w none
+name_spelled [] h = absurd h
+name_spelled (b ∷ w) h = h
 
-spelled-bytes : (w : List ℕ) (r : Option Op) → Spelled w r → all is_name_byte w ≡ true
-spelled-bytes [] r h = absurd h
-spelled-bytes (b ∷ w) r h = all_cons is_name_byte b w (lower-name b h.0) h.1
+spelled_bytes : (w : List ℕ) (r : Option Op) → Spelled w r → all is_name_byte w ≡ true
+spelled_bytes [] r h = absurd h
+spelled_bytes (b ∷ w) r h = all_cons is_name_byte b w (lower_name b h.0) h.1
 
-spelled-part : (w : List ℕ) (r : Option Op) → Spelled w r → judge_part w ≡ is (word_form w)
+spelled_part : (w : List ℕ) (r : Option Op) → Spelled w r → judge_part w ≡ is (word_form w)
 unfolding judge_part
-spelled-part [] r h = absurd h
-spelled-part (b ∷ w) r h = rw (lower_no_digit b h.0, lower_letter b h.0, word_judged is_name_byte (b ∷ w) (spelled-bytes (b ∷ w) r h) h.2)
+spelled_part [] r h = absurd h
+spelled_part (b ∷ w) r h = rw (lower_no_digit b h.0, lower_letter b h.0, word_judged is_name_byte (b ∷ w) (spelled_bytes (b ∷ w) r h) h.2)
 
 spelled_op : (w : List ℕ) (o : Op) → Spelled w (some o) → word_form w ≡ word (op o)
 unfolding word_form
 spelled_op [] o h = absurd h
 spelled_op (b ∷ w) o h = rw (h.3, word_form)
 
-spelled-name : (w : List ℕ) → Spelled w none → word_form w ≡ name w
+spelled_name : (w : List ℕ) → Spelled w none → word_form w ≡ name w
 unfolding word_form
-spelled-name [] h = absurd h
-spelled-name (b ∷ w) h = rw (h.3, word_form)
+spelled_name [] h = absurd h
+spelled_name (b ∷ w) h = rw (h.3, word_form)
 
 pub name_defined : (w : List ℕ) → IsName w → judge_name w ≡ is w
 unfolding judge_name
 name_defined [] h = absurd h
-name_defined (b ∷ w) h = rw (lower_letter b h.0, word_judged is_name_byte (b ∷ w) (spelled-bytes (b ∷ w) none h) h.2, on_judged, h.3)
+name_defined (b ∷ w) h = rw (lower_letter b h.0, word_judged is_name_byte (b ∷ w) (spelled_bytes (b ∷ w) none h) h.2, on_judged, h.3)
 
 -- ---- selectors
 
@@ -87,20 +87,20 @@ selects : (ds : List ℕ) → 0 < length ds → (get_or ds 0 0 ≡ 48 → ⊥) �
 selects [] l z h = absurd (omega arith)
 selects (b ∷ ds) l z h = rw (ne_eqb b 48 z) (le-leb (value_of (b ∷ ds)) 255 h)
 
-decimal-selects : (k : ℕ) → 1 ≤ k → k ≤ 255 → is_selector (decimal k) ≡ true
-decimal-selects k l h = selects (decimal k) (decimal-long k) (λ e. omega (arith, (decimal-zero k e).0)) (omega (arith, decimal-value k))
+decimal_selects : (k : ℕ) → 1 ≤ k → k ≤ 255 → is_selector (decimal k) ≡ true
+decimal_selects k l h = selects (decimal k) (decimal_long k) (λ e. omega (arith, (decimal-zero k e).0)) (omega (arith, decimal_value k))
 
 module _ (ds : List ℕ) (digits : all is_digit ds ≡ true) (selected : is_selector ds ≡ true) where
-  span-digits : (r : List ℕ) → span is_digit r ≡ 0 → span is_digit (ds ++ r) ≡ length ds
-  span-digits r h = omega (arith, span_all is_digit ds r digits)
+  span_digits : (r : List ℕ) → span is_digit r ≡ 0 → span is_digit (ds ++ r) ≡ length ds
+  span_digits r h = omega (arith, span_all is_digit ds r digits)
 
   left_judged : judge_selector (ds ++ []) ≡ is (word (select (value_of ds)))
   unfolding judge_selector
-  left_judged = rw (span-digits [] (span-nil is_digit), take-append_seam ds [], drop-append_seam ds [], selected)
+  left_judged = rw (span_digits [] (span-nil is_digit), take-append_seam ds [], drop-append_seam ds [], selected)
 
   right_judged : judge_selector (ds ++ 114 ∷ []) ≡ is (word (select_right (value_of ds)))
   unfolding judge_selector
-  right_judged = rw (span-digits (114 ∷ []) (span_none is_digit 114 [] refl), take-append_seam ds (114 ∷ []), drop-append_seam ds (114 ∷ []), selected)
+  right_judged = rw (span_digits (114 ∷ []) (span_none is_digit 114 [] refl), take-append_seam ds (114 ∷ []), drop-append_seam ds (114 ∷ []), selected)
 
 digit_part : (ds r : List ℕ) → all is_digit ds ≡ true → 0 < length ds → judge_part (ds ++ r) ≡ judge_selector (ds ++ r)
 unfolding judge_part
@@ -127,37 +127,37 @@ plain_begins [] f g = absurd (omega (arith, g.long))
 plain_begins (b ∷ a) f g = (b, a, refl, ((and-eq-true_iff (is_name_byte b) (all is_name_byte a)).0 g.bytes).0)
 
 pub plain_size : (s : List ℕ) (p : ℕ) (l w : List ℕ) (f : Form) → span is_word_byte l ≡ 0 → Plain w f → drop p s ≡ w ++ l → size_at s p ≡ length w
-plain_size s p l w f e g d = size_word s p l e w d (all_weaken is_name_byte is_word_byte name-word w g.bytes) g.long
+plain_size s p l w f e g d = size_word s p l e w d (all_weaken is_name_byte is_word_byte name_word w g.bytes) g.long
 
-spelled-long : (w : List ℕ) (r : Option Op) → Spelled w r → 0 < length w
-spelled-long [] r h = absurd h
-spelled-long (b ∷ w) r h = omega arith
+spelled_long : (w : List ℕ) (r : Option Op) → Spelled w r → 0 < length w
+spelled_long [] r h = absurd h
+spelled_long (b ∷ w) r h = omega arith
 
 digit_name : (b : ℕ) → is_digit b ≡ true → is_name_byte b ≡ true
 digit_name b h = or_right (is_lower b) (is_digit b) h
 
-pub word-plain : (w : Word) → IsWord w → Plain (write_word w) (word w)
+pub word_plain : (w : Word) → IsWord w → Plain (write_word w) (word w)
 unfolding write_word
-word-plain (select k) h =
+word_plain (select k) h =
     let ds = decimal k in
-    let a = decimal-digits k in
-    let j = digit_part ds [] a (decimal-long k) ∙ left_judged ds a (decimal-selects k h.0 h.1) in
-    record { bytes = all_weaken is_digit is_name_byte digit_name ds a; long = decimal-long k; judged = rw (append-nil ds, decimal-value k) at j }
-word-plain (select_right k) h =
+    let a = decimal_digits k in
+    let j = digit_part ds [] a (decimal_long k) ∙ left_judged ds a (decimal_selects k h.0 h.1) in
+    record { bytes = all_weaken is_digit is_name_byte digit_name ds a; long = decimal_long k; judged = rw (append-nil ds, decimal_value k) at j }
+word_plain (select_right k) h =
     let ds = decimal k in
-    let a = decimal-digits k in
-    let j = digit_part ds (114 ∷ []) a (decimal-long k) ∙ right_judged ds a (decimal-selects k h.0 h.1) in
+    let a = decimal_digits k in
+    let j = digit_part ds (114 ∷ []) a (decimal_long k) ∙ right_judged ds a (decimal_selects k h.0 h.1) in
     record {
       bytes = all_append is_name_byte ds (114 ∷ []) (all_weaken is_digit is_name_byte digit_name ds a) refl;
       long = omega (arith, length-append ds (114 ∷ []));
-      judged = rw (decimal-value k) at j;
+      judged = rw (decimal_value k) at j;
     }
-word-plain (op o) h =
+word_plain (op o) h =
     let w = (entry o).spelled in
     let g = op_spelled o in
-    record { bytes = spelled-bytes w (some o) g; long = spelled-long w (some o) g; judged = spelled-part w (some o) g ∙ ap is (spelled_op w o g) }
+    record { bytes = spelled_bytes w (some o) g; long = spelled_long w (some o) g; judged = spelled_part w (some o) g ∙ ap is (spelled_op w o g) }
 
-pub name-plain : (w : List ℕ) → IsName w → Plain w (name w)
-name-plain w h =
-    let g = name-spelled w h in
-    record { bytes = spelled-bytes w none g; long = spelled-long w none g; judged = spelled-part w none g ∙ ap is (spelled-name w g) }
+pub name_plain : (w : List ℕ) → IsName w → Plain w (name w)
+name_plain w h =
+    let g = name_spelled w h in
+    record { bytes = spelled_bytes w none g; long = spelled_long w none g; judged = spelled_part w none g ∙ ap is (spelled_name w g) }

@@ -22,20 +22,20 @@ use Rattle.language.specs.Accepted.{IsObj}
 use Rattle.language.specs.Answers.{Lent, Outcome, counting, written, room_in, scanned, ended, run_call}
 use Rattle.theorems.specs.Demand3.{object, Reached, wrote}
 use Rattle.theorems.specs.Written.{text_of, WrittenReadsBack, WrittenAgain}
-use Rattle.theorems.proofs.ObjectsBack.{objects-read_back}
-use Rattle.theorems.proofs.ObjectsRead.{objects-read}
+use Rattle.theorems.proofs.ObjectsBack.{objects_read_back}
+use Rattle.theorems.proofs.ObjectsRead.{objects_read}
 use Rattle.theorems.proofs.ProgramsRead.{programs_read}
-use Rattle.theorems.proofs.Ends.{just, Ends, name_in, word-object}
+use Rattle.theorems.proofs.Ends.{just, Ends, name_in, word_object}
 use Rattle.theorems.proofs.Reached.{ran_complete}
 use Rattle.theorems.proofs.ResultObjects.{reached_is}
-use Rattle.theorems.proofs.Scans.{scan-length, scan-fits, scan-marks}
+use Rattle.theorems.proofs.Scans.{scan-length, scan_fits, scan_marks}
 use Rattle.theorems.proofs.Demand3OnTexts.{got_inj, Opened, open_run, other_tables, run_call_lem}
 
 -- ---- a run call that answers 20
 
 -- an outcome's text, where the object's whole text is written
-written-text : (lent : Lent) (s c : ℕ) (w : List ℕ) → text_of (written lent s c w) ≡ w
-written-text lent s c w = take-append_seam w (drop (length w) lent.output)
+written_text : (lent : Lent) (s c : ℕ) (w : List ℕ) → text_of (written lent s c w) ≡ w
+written_text lent s c w = take-append_seam w (drop (length w) lent.output)
 
 -- the object reached, its text scanned to the end
 record Done (lent : Lent) (R : RunEnd) : Type 0 where
@@ -47,13 +47,13 @@ record Done (lent : Lent) (R : RunEnd) : Type 0 where
   reached : R ≡ done result s c
   scanned : scan (write_obj result) 0 (room_in lent) ≡ on o r
 
-scan-done : (lent : Lent) (x : Obj) (s c : ℕ) (w : Scan) → scan (write_obj x) 0 (room_in lent) ≡ w → (scanned lent s c x w).answer.number ≡ 20 → Done lent (done x s c)
-scan-done lent x s c (on o r) e h = record { result = x; s = s; c = c; o = o; r = r; reached = refl; scanned = e }
-scan-done lent x s c short e h = absurd (omega (arith, h))
-scan-done lent x s c deep e h = absurd (omega (arith, h))
+scan_done : (lent : Lent) (x : Obj) (s c : ℕ) (w : Scan) → scan (write_obj x) 0 (room_in lent) ≡ w → (scanned lent s c x w).answer.number ≡ 20 → Done lent (done x s c)
+scan_done lent x s c (on o r) e h = record { result = x; s = s; c = c; o = o; r = r; reached = refl; scanned = e }
+scan_done lent x s c short e h = absurd (omega (arith, h))
+scan_done lent x s c deep e h = absurd (omega (arith, h))
 
 end_done : (lent : Lent) (R : RunEnd) → (ended lent R).answer.number ≡ 20 → Done lent R
-end_done lent (done x s c) h = scan-done lent x s c (scan (write_obj x) 0 (room_in lent)) refl h
+end_done lent (done x s c) h = scan_done lent x s c (scan (write_obj x) 0 (room_in lent)) refl h
 end_done lent (fell s c) h = absurd (omega (arith, h))
 end_done lent (ran_out no_step s c) h = absurd (omega (arith, h))
 end_done lent (ran_out no_name s c) h = absurd (omega (arith, h))
@@ -77,19 +77,19 @@ wrote_is s x t b lent h u =
     record {
       opened = O;
       ends = D;
-      is_obj = reached_is one O.program O.object D.result b D.s D.c (programs_read s O.program O.e O.reads_program).well_formed.definitions (objects-read x O.object O.e' O.reads_object).is_obj D.reached;
-      text = sym (written-text lent D.s D.c w) ∙ sym (ap text_of e) ∙ u;
+      is_obj = reached_is one O.program O.object D.result b D.s D.c (programs_read s O.program O.e O.reads_program).well_formed.definitions (objects_read x O.object O.e' O.reads_object).is_obj D.reached;
+      text = sym (written_text lent D.s D.c w) ∙ sym (ap text_of e) ∙ u;
     }
 
 -- its text reads as the object
 wrote_back : {s x t : List ℕ} {b : Meter} {lent : Lent} (W : Wrote s x t b lent) → read_object t ≡ got W.ends.result (length t)
 wrote_back {lent = lent} W =
     let D = W.ends in
-    let m = scan-marks D.result W.is_obj (room_in lent) D.o D.r D.scanned in
-    subst (λ (v : List ℕ). read_object v ≡ got D.result (length v)) W.text (objects-read_back D.result W.is_obj m)
+    let m = scan_marks D.result W.is_obj (room_in lent) D.o D.r D.scanned in
+    subst (λ (v : List ℕ). read_object v ≡ got D.result (length v)) W.text (objects_read_back D.result W.is_obj m)
 
-pub written-reads_back : WrittenReadsBack
-written-reads_back s x t b lent h u =
+pub written_reads_back : WrittenReadsBack
+written_reads_back s x t b lent h u =
     let W = wrote_is s x t b lent h u in
     let O = W.opened in
     let D = W.ends in
@@ -110,7 +110,7 @@ unfolding read_program read_definitions definition_at within_limits none_twice i
 identity_reads = refl
 
 identity_ends : (y : Obj) → Ends one identity 1 (just main_form y) (object y) 2 0
-identity_ends y = name_in refl (word-object refl)
+identity_ends y = name_in refl (word_object refl)
 
 identity_runs : (y : Obj) (b : Meter) → 2 ≤ b.steps → 1 ≤ b.names → cells_of y ≤ b.cells → run one identity y b ≡ done y 2 (cells_of y)
 identity_runs y b s n c =
@@ -121,8 +121,8 @@ identity_runs y b s n c =
 tables_fit : (b : Meter) (lent : Lent) → b.cells ≤ 4096 → length lent.forms ≡ 8192 → length lent.cells ≡ 4 * b.cells → other_tables b lent ≡ false
 tables_fit b lent c f g = rw (le-ltb 4096 b.cells c, eq-eqb (length lent.forms) 8192 f, eq-eqb (length lent.cells) (4 * b.cells) g)
 
-pub written-again : WrittenAgain
-written-again s x t b lent h u y e g b' lent' E =
+pub written_again : WrittenAgain
+written_again s x t b lent h u y e g b' lent' E =
     let W = wrote_is s x t b lent h u in
     let D = W.ends in
     let q : D.result ≡ y = got_inj (sym (wrote_back W) ∙ g) in
@@ -131,7 +131,7 @@ written-again s x t b lent h u y e g b' lent' E =
     let k = ap length W.text in
     let short = scan-length (write_obj D.result) 0 (room_in lent) D.o D.r D.scanned in
     let out = E.output in
-    let z = subst (λ (v : Obj). scan (write_obj v) 0 (room_in lent') ≡ on D.o (room_in lent' - length (write_obj v))) q (scan-fits (write_obj D.result) 0 (room_in lent) (room_in lent') D.o D.r D.scanned (omega arith)) in
+    let z = subst (λ (v : Obj). scan (write_obj v) 0 (room_in lent') ≡ on D.o (room_in lent' - length (write_obj v))) q (scan_fits (write_obj D.result) 0 (room_in lent) (room_in lent') D.o D.r D.scanned (omega arith)) in
     let f = run_call_lem (bytes "main=id;") t b' lent' identity 8 y e (omega arith) (le-ltb 16384 (length t) (omega arith)) (le-ltb 1000000 b'.steps E.steps_within) (le-ltb 256 b'.names E.names_within) (tables_fit b' lent' E.cells_within E.form_table E.cell_table) identity_reads g in
     let a : run_call (bytes "main=id;") t b' lent' ≡ written lent' 2 (cells_of y) (write_obj y) = f ∙ ap (ended lent') (identity_runs y b' E.steps E.names E.cells) ∙ ap (scanned lent' 2 (cells_of y) y) z in
-    (ap (λ (o : Outcome). o.answer) a ∙ ap (counting 20 2 (cells_of y)) n, ap text_of a ∙ written-text lent' 2 (cells_of y) (write_obj y) ∙ w)
+    (ap (λ (o : Outcome). o.answer) a ∙ ap (counting 20 2 (cells_of y)) n, ap text_of a ∙ written_text lent' 2 (cells_of y) (write_obj y) ∙ w)

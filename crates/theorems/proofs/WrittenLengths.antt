@@ -127,9 +127,9 @@ program-length (d ∷ ds) =
 
 -- ---- at least one byte
 
-decimal-written : (n : ℕ) → 1 ≤ length (decimal n)
+decimal_written : (n : ℕ) → 1 ≤ length (decimal n)
 unfolding decimal digits
-decimal-written n = go n n
+decimal_written n = go n n
   where
     pick : (b : Bool) (s : List ℕ) (x y : ℕ) → 1 ≤ length (cond b (x ∷ []) (s ++ y ∷ []))
     pick true s x y = omega arith
@@ -139,52 +139,52 @@ decimal-written n = go n n
     go zero n = omega arith
     go (suc k) n = pick (leb n 9) (digits k (n / 10)) (code "0" + n) (code "0" + n % 10)
 
-word-written : (w : Word) → 1 ≤ length (write_word w)
+word_written : (w : Word) → 1 ≤ length (write_word w)
 unfolding write_word
-word-written (select k) = decimal-written k
-word-written (select_right k) = omega (arith, length-append (decimal k) (bytes "r"))
-word-written (op Op.id) = omega arith
-word-written (op Op.tl) = omega arith
-word-written (op Op.atom) = omega arith
-word-written (op Op.null) = omega arith
-word-written (op Op.eq) = omega arith
-word-written (op Op.lt) = omega arith
-word-written (op Op.length) = omega arith
-word-written (op Op.add) = omega arith
-word-written (op Op.sub) = omega arith
-word-written (op Op.mul) = omega arith
-word-written (op Op.div) = omega arith
-word-written (op Op.and) = omega arith
-word-written (op Op.or) = omega arith
-word-written (op Op.not) = omega arith
-word-written (op Op.apndl) = omega arith
-word-written (op Op.tlr) = omega arith
-word-written (op Op.reverse) = omega arith
-word-written (op Op.rotl) = omega arith
-word-written (op Op.rotr) = omega arith
-word-written (op Op.apndr) = omega arith
-word-written (op Op.distl) = omega arith
-word-written (op Op.distr) = omega arith
-word-written (op Op.trans) = omega arith
+word_written (select k) = decimal_written k
+word_written (select_right k) = omega (arith, length-append (decimal k) (bytes "r"))
+word_written (op Op.id) = omega arith
+word_written (op Op.tl) = omega arith
+word_written (op Op.atom) = omega arith
+word_written (op Op.null) = omega arith
+word_written (op Op.eq) = omega arith
+word_written (op Op.lt) = omega arith
+word_written (op Op.length) = omega arith
+word_written (op Op.add) = omega arith
+word_written (op Op.sub) = omega arith
+word_written (op Op.mul) = omega arith
+word_written (op Op.div) = omega arith
+word_written (op Op.and) = omega arith
+word_written (op Op.or) = omega arith
+word_written (op Op.not) = omega arith
+word_written (op Op.apndl) = omega arith
+word_written (op Op.tlr) = omega arith
+word_written (op Op.reverse) = omega arith
+word_written (op Op.rotl) = omega arith
+word_written (op Op.rotr) = omega arith
+word_written (op Op.apndr) = omega arith
+word_written (op Op.distl) = omega arith
+word_written (op Op.distr) = omega arith
+word_written (op Op.trans) = omega arith
 
-name-written : (w : List ℕ) → IsName w → 1 ≤ length w
-name-written [] ok = absurd ok
-name-written (b ∷ w) ok = omega arith
+name_written : (w : List ℕ) → IsName w → 1 ≤ length w
+name_written [] ok = absurd ok
+name_written (b ∷ w) ok = omega arith
 
 -- a chain's second part has a dot before it
-pub form-written : (f : Form) → IsForm f → 1 ≤ form_bytes f
-form-written (word w) ok = word-written w
-form-written (name w) ok = name-written w ok
-form-written (chain stop) ok = absurd ok.0
-form-written (chain (f & stop)) ok = absurd ok.0
-form-written (chain (f & g & fs)) ok = omega arith
-form-written (construct fs) ok = omega arith
-form-written (constant x) ok = omega arith
-form-written (insert f) ok = omega arith
-form-written (apply_all f) ok = omega arith
-form-written (bu f x) ok = omega arith
-form-written (condition p f g) ok = omega arith
-form-written (while p f) ok = omega arith
+pub form_written : (f : Form) → IsForm f → 1 ≤ form_bytes f
+form_written (word w) ok = word_written w
+form_written (name w) ok = name_written w ok
+form_written (chain stop) ok = absurd ok.0
+form_written (chain (f & stop)) ok = absurd ok.0
+form_written (chain (f & g & fs)) ok = omega arith
+form_written (construct fs) ok = omega arith
+form_written (constant x) ok = omega arith
+form_written (insert f) ok = omega arith
+form_written (apply_all f) ok = omega arith
+form_written (bu f x) ok = omega arith
+form_written (condition p f g) ok = omega arith
+form_written (while p f) ok = omega arith
 
 -- ---- parts put among others
 

@@ -1,6 +1,6 @@
 -- The word `eq` decides whether two objects are equal.
 use Rattle.std.specs.Prelude.{◌≡◌, true}
-use Rattle.language.specs.Objects.{Obj, symbolT, symbolF}
+use Rattle.language.specs.Objects.{Obj, symbol_T, symbol_F}
 use Rattle.language.specs.Words.{Op}
 use Rattle.language.specs.Forms.{op}
 use Rattle.language.specs.Numbers.{Edition}
@@ -14,5 +14,5 @@ EqDecides = (a b : Obj) → ((look a b).same ≡ true → a ≡ b) × (a ≡ b �
 abbrev pub EqAnswers : Type 0
 EqAnswers =
     (e : Edition) (a b : Obj)
-    → (a ≡ b → meaning e (op Op.eq) (pair a b) ≡ gives (look a b).pairs 0 symbolT)
-    × ((a ≡ b → ⊥) → meaning e (op Op.eq) (pair a b) ≡ gives (look a b).pairs 0 symbolF)
+    → (a ≡ b → meaning e (op Op.eq) (pair a b) ≡ gives (look a b).pairs 0 symbol_T)
+    × ((a ≡ b → ⊥) → meaning e (op Op.eq) (pair a b) ≡ gives (look a b).pairs 0 symbol_F)

@@ -1,5 +1,5 @@
 use borrow.Author.Rules.{rules}
-use Rattle.equality.proofs.Comparisons.{look_out, look_equal, look_differ, look_apart, look_places, place_start, place_next, place_differ, place_out, place_longer, place_shorter, place_end, below-look, look-fell}
+use Rattle.equality.proofs.Comparisons.{look_out, look_equal, look_differ, look_apart, look_places, place_start, place_next, place_differ, place_out, place_longer, place_shorter, place_end, below_look, look_fell}
 use Rattle.equality.proofs.+comparison.Goals as goal
 
 pub places-loop-p-init : goal.places-loop-p-init
@@ -15,7 +15,7 @@ pub places-returns-in-Out : goal.places-returns-in-Out
 places-returns-in-Out t c = search place_out
 
 pub places-loop-p-smaller : goal.places-loop-p-smaller
-places-loop-p-smaller t c = search look-fell
+places-loop-p-smaller t c = search look_fell
 
 pub places-loop-p-preserved : goal.places-loop-p-preserved
 places-loop-p-preserved t c = search place_next
@@ -33,7 +33,7 @@ pub same-returns-then-a-b : goal.same-returns-then-a-b
 same-returns-then-a-b t c = search look_apart
 
 pub same-places-requires : goal.same-places-requires
-same-places-requires t c = search (below-look, rules)
+same-places-requires t c = search (below_look, rules)
 
 pub same-returns-then-a-eq-SEQUENCE : goal.same-returns-then-a-eq-SEQUENCE
 same-returns-then-a-eq-SEQUENCE t c = search look_places

@@ -1,6 +1,6 @@
 -- An example is four lines.
-use Rattle.examples.proofs.Further.{four-ahead}
+use Rattle.examples.proofs.Further.{four_ahead}
 use Rattle.examples.proofs.print_example.Goals as goal
 
 pub returns : goal.returns
-returns c = search four-ahead
+returns c = search four_ahead

@@ -1,5 +1,5 @@
 -- `apply_to_two` answers as the word with the code means of a pair.
-use Rattle.primitives.proofs.Dispatched.{word_eq, word_lt, word-add, word-sub, word-mul, word-div, word_and, word-or, word-apndl, word-apndr, word-distl, word-distr, two_none}
+use Rattle.primitives.proofs.Dispatched.{word_eq, word_lt, word-add, word-sub, word-mul, word-div, word_and, word-or, word_apndl, word_apndr, word_distl, word_distr, two_none}
 use Rattle.primitives.proofs.apply_to_two.Goals as goal
 
 pub returns-in-4 : goal.returns-in-4
@@ -27,16 +27,16 @@ pub returns-in-12 : goal.returns-in-12
 returns-in-12 c = search word-or
 
 pub returns-in-14 : goal.returns-in-14
-returns-in-14 c = search word-apndl
+returns-in-14 c = search word_apndl
 
 pub returns-in-19 : goal.returns-in-19
-returns-in-19 c = search word-apndr
+returns-in-19 c = search word_apndr
 
 pub returns-in-20 : goal.returns-in-20
-returns-in-20 c = search word-distl
+returns-in-20 c = search word_distl
 
 pub returns-in-21 : goal.returns-in-21
-returns-in-21 c = search word-distr
+returns-in-21 c = search word_distr
 
 pub returns-in_default : goal.returns-in_default
 returns-in_default c = search two_none

@@ -1,5 +1,5 @@
 -- `apply_word` answers as the word with the code means.
-use Rattle.primitives.proofs.Dispatched.{word_id, word_tl, word-atom, word-null, word-length, word-not, word_tlr, word-reverse, word-rotl, word-rotr, word-trans, coded_pair}
+use Rattle.primitives.proofs.Dispatched.{word_id, word_tl, word_atom, word_null, word-length, word-not, word_tlr, word-reverse, word_rotl, word_rotr, word_trans, coded_pair}
 use Rattle.primitives.proofs.apply_word.Goals as goal
 
 pub returns-in-0 : goal.returns-in-0
@@ -9,10 +9,10 @@ pub returns-in-1 : goal.returns-in-1
 returns-in-1 c = search word_tl
 
 pub returns-in-2 : goal.returns-in-2
-returns-in-2 c = search word-atom
+returns-in-2 c = search word_atom
 
 pub returns-in-3 : goal.returns-in-3
-returns-in-3 c = search word-null
+returns-in-3 c = search word_null
 
 pub returns-in-6 : goal.returns-in-6
 returns-in-6 c = search word-length
@@ -27,13 +27,13 @@ pub returns-in-16 : goal.returns-in-16
 returns-in-16 c = search word-reverse
 
 pub returns-in-17 : goal.returns-in-17
-returns-in-17 c = search word-rotl
+returns-in-17 c = search word_rotl
 
 pub returns-in-18 : goal.returns-in-18
-returns-in-18 c = search word-rotr
+returns-in-18 c = search word_rotr
 
 pub returns-in-22 : goal.returns-in-22
-returns-in-22 c = search word-trans
+returns-in-22 c = search word_trans
 
 pub returns-in_default : goal.returns-in_default
 returns-in_default c = search coded_pair

@@ -1,5 +1,5 @@
 -- Three line feeds, the last at the end, are three lines; all else is of another shape.
-use Rattle.call_lines.proofs.Splits.{no_feed, one_feed, two_feeds, more-behind, cut_three}
+use Rattle.call_lines.proofs.Splits.{no_feed, one_feed, two_feeds, more_behind, cut_three}
 use Rattle.call_lines.proofs.cutting.cut_lines.Goals as goal
 
 pub returns-then-first-n : goal.returns-then-first-n
@@ -12,7 +12,7 @@ pub returns-then-third-n : goal.returns-then-third-n
 returns-then-third-n c = search two_feeds
 
 pub returns-then-third-n-2 : goal.returns-then-third-n-2
-returns-then-third-n-2 c = search more-behind
+returns-then-third-n-2 c = search more_behind
 
 pub returns : goal.returns
 returns c = search cut_three

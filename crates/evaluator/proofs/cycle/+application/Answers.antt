@@ -1,10 +1,10 @@
-use Rattle.evaluator.proofs.Steps.{below_step, applied_as, below_open, below-taken, fell_by}
-use Rattle.evaluator.proofs.Chains.{chain_start, chain_next, chain-stop, chain_end, ask_stop, ask_yes, ask_no, ask_none, below-says, cond-stop, cond-done, name-none, name_full, name-stop, may_close, name_done}
-use Rattle.evaluator.proofs.Builds.{slot_done, slot_stop, build_start, build_turn, build_halt, build_done, map-atom, map_start, map_turn, map_halt, map-done}
+use Rattle.evaluator.proofs.Steps.{below_step, applied_as, below_open, below_taken, fell_by}
+use Rattle.evaluator.proofs.Chains.{chain_start, chain_next, chain_stop, chain_end, ask_stop, ask_yes, ask_no, ask_none, below_says, cond_stop, cond_done, name_none, name_full, name_stop, may_close, name_done}
+use Rattle.evaluator.proofs.Builds.{slot_done, slot_stop, build_start, build_turn, build_halt, build_done, map_atom, map_start, map_turn, map_halt, map_done}
 use Rattle.evaluator.proofs.Repeats.{repeat_start, repeat_stop, repeat_done, repeat_stop_2, repeat_less, repeat_next, below_turn}
 use Rattle.evaluator.proofs.Pairs.{bu_full, bu_done, fold_full, fold_done}
-use Rattle.evaluator.proofs.Inserts.{between_start, between_turn, between_halt, between_end, insert-atom, insert-none, insert-done}
-use Rattle.evaluator.proofs.Applies.{applied, apply-spent, apply_leaf, on_word, on_name, on_chain, on_construct, on_insert, on_all, on_condition, on_while, on_bu}
+use Rattle.evaluator.proofs.Inserts.{between_start, between_turn, between_halt, between_end, insert_atom, insert_none, insert_done}
+use Rattle.evaluator.proofs.Applies.{applied, apply_spent, apply_leaf, on_word, on_name, on_chain, on_construct, on_insert, on_all, on_condition, on_while, on_bu}
 use borrow.Author.Rules.{rules}
 use Rattle.evaluator.proofs.cycle.+application.Goals as goal
 
@@ -39,7 +39,7 @@ pub between-returns : goal.between-returns
 between-returns t c = search between_end
 
 pub bu-apply-requires : goal.bu-apply-requires
-bu-apply-requires t c = search (below-taken, rules)
+bu-apply-requires t c = search (below_taken, rules)
 
 pub bu-returns-in-Spent : goal.bu-returns-in-Spent
 bu-returns-in-Spent t c = search bu_full
@@ -51,7 +51,7 @@ pub chain-loop-j-init : goal.chain-loop-j-init
 chain-loop-j-init t c = search chain_start
 
 pub chain-returns-in-Stop : goal.chain-returns-in-Stop
-chain-returns-in-Stop t c = search chain-stop
+chain-returns-in-Stop t c = search chain_stop
 
 pub chain-loop-j-smaller : goal.chain-loop-j-smaller
 chain-loop-j-smaller t c = search fell_by
@@ -63,13 +63,13 @@ pub chain-returns : goal.chain-returns
 chain-returns t c = search chain_end
 
 pub condition-apply-requires : goal.condition-apply-requires
-condition-apply-requires t c = search (below-says, rules)
+condition-apply-requires t c = search (below_says, rules)
 
 pub condition-returns-in-Stop : goal.condition-returns-in-Stop
-condition-returns-in-Stop t c = search cond-stop
+condition-returns-in-Stop t c = search cond_stop
 
 pub condition-returns-in-Says : goal.condition-returns-in-Says
-condition-returns-in-Says t c = search cond-done
+condition-returns-in-Says t c = search cond_done
 
 pub construct-loop-q-init : goal.construct-loop-q-init
 construct-loop-q-init t c = search build_start
@@ -84,7 +84,7 @@ pub construct-returns : goal.construct-returns
 construct-returns t c = search build_done
 
 pub each-returns-then-v-ne-SEQUENCE : goal.each-returns-then-v-ne-SEQUENCE
-each-returns-then-v-ne-SEQUENCE t c = search map-atom
+each-returns-then-v-ne-SEQUENCE t c = search map_atom
 
 pub each-loop-q-init : goal.each-loop-q-init
 each-loop-q-init t c = search map_start
@@ -96,10 +96,10 @@ pub each-loop-q-preserved : goal.each-loop-q-preserved
 each-loop-q-preserved t c = search map_turn
 
 pub each-returns : goal.each-returns
-each-returns t c = search map-done
+each-returns t c = search map_done
 
 pub fold-apply-requires : goal.fold-apply-requires
-fold-apply-requires t c = search (below-taken, rules)
+fold-apply-requires t c = search (below_taken, rules)
 
 pub fold-returns-in-Spent : goal.fold-returns-in-Spent
 fold-returns-in-Spent t c = search fold_full
@@ -108,16 +108,16 @@ pub fold-returns-in-Granted : goal.fold-returns-in-Granted
 fold-returns-in-Granted t c = search fold_done
 
 pub insert-returns-then-v-ne-SEQUENCE : goal.insert-returns-then-v-ne-SEQUENCE
-insert-returns-then-v-ne-SEQUENCE t c = search insert-atom
+insert-returns-then-v-ne-SEQUENCE t c = search insert_atom
 
 pub insert-returns-then-many-eq0 : goal.insert-returns-then-many-eq0
-insert-returns-then-many-eq0 t c = search insert-none
+insert-returns-then-many-eq0 t c = search insert_none
 
 pub insert-returns : goal.insert-returns
-insert-returns t c = search insert-done
+insert-returns t c = search insert_done
 
 pub name-returns-then-d-eq0 : goal.name-returns-then-d-eq0
-name-returns-then-d-eq0 t c = search name-none
+name-returns-then-d-eq0 t c = search name_none
 
 pub name-apply-requires : goal.name-apply-requires
 name-apply-requires t c = search (below_open, rules)
@@ -129,7 +129,7 @@ pub name-returns-in-Spent : goal.name-returns-in-Spent
 name-returns-in-Spent t c = search name_full
 
 pub name-returns-in-Stop : goal.name-returns-in-Stop
-name-returns-in-Stop t c = search name-stop
+name-returns-in-Stop t c = search name_stop
 
 pub name-returns-in-Done : goal.name-returns-in-Done
 name-returns-in-Done t c = search name_done
@@ -162,7 +162,7 @@ pub slot-returns-in-Stop : goal.slot-returns-in-Stop
 slot-returns-in-Stop t c = search slot_stop
 
 pub step-returns-in-Spent : goal.step-returns-in-Spent
-step-returns-in-Spent t c = search apply-spent
+step-returns-in-Spent t c = search apply_spent
 
 pub step-name-requires : goal.step-name-requires
 step-name-requires t c = search (below_step, rules)

@@ -1,5 +1,5 @@
 -- `is_opening` gives the test of its name. Assumes nothing.
-use Rattle.forms.proofs.Plains.{opening_91, opening_37, opening_47, opening_64, opening_123, opening_40, opening-none}
+use Rattle.forms.proofs.Plains.{opening_91, opening_37, opening_47, opening_64, opening_123, opening_40, opening_none}
 use Rattle.forms.proofs.marks.is_opening.Goals as goal
 
 pub returns-in-91 : goal.returns-in-91
@@ -21,4 +21,4 @@ pub returns-in-40 : goal.returns-in-40
 returns-in-40 c = search opening_40
 
 pub returns-in_default : goal.returns-in_default
-returns-in_default c = search opening-none
+returns-in_default c = search opening_none

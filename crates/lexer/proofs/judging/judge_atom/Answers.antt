@@ -1,18 +1,18 @@
 -- `judge_atom` judges what stands where an object may stand, by its first byte. Assumes nothing.
-use Rattle.lexer.proofs.Judged.{atoms, first-none, first-number, first_word, first-other, other-not, other_minus}
+use Rattle.lexer.proofs.Judged.{atoms, first_none, first_number, first_word, first_other, other-not, other_minus}
 use Rattle.lexer.proofs.judging.judge_atom.Goals as goal
 
 pub returns-then-n-eq0 : goal.returns-then-n-eq0
-returns-then-n-eq0 c = search (first-none atoms)
+returns-then-n-eq0 c = search (first_none atoms)
 
 pub returns-then-is_digit : goal.returns-then-is_digit
-returns-then-is_digit c = search (first-number atoms)
+returns-then-is_digit c = search (first_number atoms)
 
 pub returns-then-is_letter : goal.returns-then-is_letter
 returns-then-is_letter c = search (first_word atoms)
 
 pub returns-then-b-ne45 : goal.returns-then-b-ne45
-returns-then-b-ne45 c = search (first-other atoms, other-not)
+returns-then-b-ne45 c = search (first_other atoms, other-not)
 
 pub returns : goal.returns
-returns c = search (first-other atoms, other_minus)
+returns c = search (first_other atoms, other_minus)

@@ -1,15 +1,15 @@
 -- `judge_part` judges what stands where a part may stand, by its first byte. Assumes nothing.
-use Rattle.lexer.proofs.Judged.{parts, first-none, first-number, first_word, first-other}
+use Rattle.lexer.proofs.Judged.{parts, first_none, first_number, first_word, first_other}
 use Rattle.lexer.proofs.judging.judge_part.Goals as goal
 
 pub returns-then-n-eq0 : goal.returns-then-n-eq0
-returns-then-n-eq0 c = search (first-none parts)
+returns-then-n-eq0 c = search (first_none parts)
 
 pub returns-then-is_digit : goal.returns-then-is_digit
-returns-then-is_digit c = search (first-number parts)
+returns-then-is_digit c = search (first_number parts)
 
 pub returns-then-is_letter : goal.returns-then-is_letter
 returns-then-is_letter c = search (first_word parts)
 
 pub returns : goal.returns
-returns c = search (first-other parts)
+returns c = search (first_other parts)

@@ -1,10 +1,10 @@
 -- `judge_plain` judges a word where a part may stand. Assumes nothing.
 use Rattle.lexer.specs.declared.Class.TheVariants.{Name}
-use Rattle.lexer.proofs.Judged.{plain-refused, plain_primitive, plain-name, word_few}
+use Rattle.lexer.proofs.Judged.{plain_refused, plain_primitive, plain_name, word_few}
 use Rattle.lexer.proofs.judging.judge_plain.Goals as goal
 
 pub returns-then-refused-ne0 : goal.returns-then-refused-ne0
-returns-then-refused-ne0 c = search plain-refused
+returns-then-refused-ne0 c = search plain_refused
 
 pub returns-then-code-lt-NO_WORD : goal.returns-then-code-lt-NO_WORD
 returns-then-code-lt-NO_WORD c = search plain_primitive
@@ -15,4 +15,4 @@ pack-requires c =
     (a.requires.0, a.requires.1, word_few Name a.args.s.now _ _ a.requires.1 c.judge_word-refused.ensures c.if-refused-ne0.false)
 
 pub returns : goal.returns
-returns c = search plain-name
+returns c = search plain_name

@@ -1,9 +1,9 @@
 -- The object is refused, or takes more cells than are budgeted, or stands behind the program and is run on.
-use Rattle.nattglod.proofs.TextExits.{object-place, object_answered_no, object_answered_few, object_answered_run}
+use Rattle.nattglod.proofs.TextExits.{object_place, object_answered_no, object_answered_few, object_answered_run}
 use Rattle.nattglod.proofs.texts.answer_object.Goals as goal
 
 pub at-requires : goal.at-requires
-at-requires c = search object-place
+at-requires c = search object_place
 
 pub returns-then-b-all : goal.returns-then-b-all
 returns-then-b-all c = search object_answered_few

@@ -1,9 +1,9 @@
 use Rattle.std.proofs.Common.{arith, rules}
-use Rattle.objects.proofs.ObjectReads.{inside, object-word, object_full, object_empty, object_places, place-last, place_bad, place-more, place_no, going_start, going_on, going_no, going_last}
+use Rattle.objects.proofs.ObjectReads.{inside, object_word, object_full, object_empty, object_places, place_last, place_bad, place_more, place_no, going_start, going_on, going_no, going_last}
 use Rattle.objects.proofs.reader.+object_reading.Goals as goal
 
 pub read_object-returns-then-b-ne60 : goal.read_object-returns-then-b-ne60
-read_object-returns-then-b-ne60 t c = search object-word
+read_object-returns-then-b-ne60 t c = search object_word
 
 pub read_object-returns-then-room-eq0 : goal.read_object-returns-then-room-eq0
 read_object-returns-then-room-eq0 t c = search object_full
@@ -35,7 +35,7 @@ read_place-overflow_add-result t c =
     omega arith
 
 pub read_place-returns-then-b-eq62 : goal.read_place-returns-then-b-eq62
-read_place-returns-then-b-eq62 t c = search place-last
+read_place-returns-then-b-eq62 t c = search place_last
 
 pub read_place-returns-then-b-ne44 : goal.read_place-returns-then-b-ne44
 read_place-returns-then-b-ne44 t c = search place_bad
@@ -54,7 +54,7 @@ pub read_place-returns-in-No : goal.read_place-returns-in-No
 read_place-returns-in-No t c = search place_no
 
 pub read_place-returns-else-b-ne44 : goal.read_place-returns-else-b-ne44
-read_place-returns-else-b-ne44 t c = search place-more
+read_place-returns-else-b-ne44 t c = search place_more
 
 pub read_places-loop-k-init : goal.read_places-loop-k-init
 read_places-loop-k-init t c = going_start (search rules)

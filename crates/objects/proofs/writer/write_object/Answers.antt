@@ -1,10 +1,10 @@
 -- The walk that measures decides the answer; only where all fits does the same walk write.
 use Rattle.std.proofs.Common.{rules}
-use Rattle.objects.proofs.Writes.{room-part, write_short, write_deep, write_done}
+use Rattle.objects.proofs.Writes.{room_part, write_short, write_deep, write_done}
 use Rattle.objects.proofs.writer.write_object.Goals as goal
 
 pub slice_bounds-walk_object-end-2 : goal.slice_bounds-walk_object-end-2
-slice_bounds-walk_object-end-2 c = search (rules, room-part)
+slice_bounds-walk_object-end-2 c = search (rules, room_part)
 
 pub returns-in-Short : goal.returns-in-Short
 returns-in-Short c = search write_short

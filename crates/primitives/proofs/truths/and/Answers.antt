@@ -1,15 +1,15 @@
 -- `and` answers as its word means.
-use Rattle.primitives.proofs.Judged.{first-neither, second-neither, on_and, and-first_f, and-second_is}
+use Rattle.primitives.proofs.Judged.{first_neither, second_neither, on_and, and_first_f, and_second_is}
 use Rattle.primitives.proofs.truths.and.Goals as goal
 
 pub returns-then-x-eq2 : goal.returns-then-x-eq2
-returns-then-x-eq2 c = search (first-neither, on_and)
+returns-then-x-eq2 c = search (first_neither, on_and)
 
 pub returns-then-y-eq2 : goal.returns-then-y-eq2
-returns-then-y-eq2 c = search (second-neither, on_and)
+returns-then-y-eq2 c = search (second_neither, on_and)
 
 pub returns-then-x-eq0 : goal.returns-then-x-eq0
-returns-then-x-eq0 c = search and-first_f
+returns-then-x-eq0 c = search and_first_f
 
 pub returns : goal.returns
-returns c = search and-second_is
+returns c = search and_second_is

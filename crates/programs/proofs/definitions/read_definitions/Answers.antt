@@ -1,4 +1,4 @@
-use Rattle.programs.proofs.Defining.{defining_starts, definitions_end, definition_requires, definitions-stop, definitions_next, definitions_less, definitions-count-fits}
+use Rattle.programs.proofs.Defining.{defining_starts, definitions_end, definition_requires, definitions_stop, definitions_next, definitions_less, definitions_count_fits}
 use Rattle.programs.proofs.definitions.read_definitions.Goals as goal
 
 pub loop-at-init : goal.loop-at-init
@@ -11,10 +11,10 @@ pub read_definition-requires : goal.read_definition-requires
 read_definition-requires c = search definition_requires
 
 pub returns-in-No : goal.returns-in-No
-returns-in-No c = search definitions-stop
+returns-in-No c = search definitions_stop
 
 pub overflow_add-k : goal.overflow_add-k
-overflow_add-k c = search definitions-count-fits
+overflow_add-k c = search definitions_count_fits
 
 pub loop-at-smaller : goal.loop-at-smaller
 loop-at-smaller c = search definitions_less

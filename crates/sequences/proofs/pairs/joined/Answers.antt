@@ -1,9 +1,9 @@
 -- `joined` gives the pair, with its first value on either side.
-use Rattle.sequences.proofs.Sharing.{joined-first, joined-second}
+use Rattle.sequences.proofs.Sharing.{joined_first, joined_second}
 use Rattle.sequences.proofs.pairs.joined.Goals as goal
 
 pub returns-then-first : goal.returns-then-first
-returns-then-first c = search joined-first
+returns-then-first c = search joined_first
 
 pub returns : goal.returns
-returns c = search joined-second
+returns c = search joined_second
