@@ -79,7 +79,7 @@ def joined(name, names, operations, types):
 # single names that the rules don't reach
 OTHERS = {"isT": "is_T", "isF": "is_F", "onT": "on_T", "onF": "on_F", "symbolT": "symbol_T", "symbolF": "symbol_F", "longC": "long_C",
           "root9T": "root9_T", "root9F": "root9_F", "root9T-fwd": "root9_T_fwd", "root9F-fwd": "root9_F_fwd", "root9T_fwd": "root9_T_fwd", "root9F_fwd": "root9_F_fwd",
-          "one-Cell": "one_cell", "one_Cell": "one_cell", "readAt": "read_at", "applyAll'": "apply_all'"}
+          "n-and-1": "n_and_1", "m-and-m-times-n": "m_and_m_times_n", "rep-nil": "rep_nil", "one-Cell": "one_cell", "one_Cell": "one_cell", "readAt": "read_at", "applyAll'": "apply_all'"}
 
 
 def table():

@@ -37,16 +37,25 @@ fn run(rt: &impl Print, f: &[u32; 8192], c: &mut [u32; 16384], v: Val, m: Meter)
 // Prints the answer table's number of an end, and what was taken of the budgets m where k is left: steps, names still open,
 // cells.
 fn report(rt: &impl Print, n: u32, m: Meter, k: Meter) -> io::Result<()> {
-    let steps = m.steps.wrapping_sub(k.steps);
-    let names = m.names.wrapping_sub(k.names);
-    let cells = m.cells.wrapping_sub(k.cells);
-    println!(rt; "ends with {n}: {steps} steps, {names} names open, {cells} cells")
+    rt.write_all(b"ends with ")?;
+    print_number(rt, n)?;
+    rt.write_all(b": ")?;
+    print_number(rt, m.steps.wrapping_sub(k.steps))?;
+    rt.write_all(b" steps, ")?;
+    print_number(rt, m.names.wrapping_sub(k.names))?;
+    rt.write_all(b" names open, ")?;
+    print_number(rt, m.cells.wrapping_sub(k.cells))?;
+    rt.write_all(b" cells\n")
 }
 
 // Prints the kind in the record that starts at i.
 fn print_kind(rt: &impl Print, f: &[u32; 8192], i: usize) -> io::Result<()> {
-    let kind = tables::at(f, i) % 32;
-    print!(rt; "{kind} ")
+    print_number(rt, tables::at(f, i) % 32)?;
+    rt.write_all(b" ")
+}
+
+fn print_number(rt: &impl Print, n: u32) -> io::Result<()> {
+    print!(rt; "{n}")
 }
 
 // Forms of one kind, on an integer.
