@@ -79,6 +79,11 @@ def joined(name, names, operations, types):
 # single names that the rules don't reach
 OTHERS = {"isT": "is_T", "isF": "is_F", "onT": "on_T", "onF": "on_F", "symbolT": "symbol_T", "symbolF": "symbol_F", "longC": "long_C",
           "root9T": "root9_T", "root9F": "root9_F", "root9T-fwd": "root9_T_fwd", "root9F-fwd": "root9_F_fwd", "root9T_fwd": "root9_T_fwd", "root9F_fwd": "root9_F_fwd",
+          "F-no": "F_no", "areForms-append": "are_forms_append", "bu-sub": "bu_sub", "each-sub": "each_sub", "fold-sub": "fold_sub",
+          "length-append-one": "length_append_one", "link-add": "link_add", "loop-sub": "loop_sub", "meets-cond": "meets_cond",
+          "on-add": "on_add", "on-cond": "on_cond", "on-div": "on_div", "on-mul": "on_mul", "on-sub": "on_sub",
+          "one-or-more": "one_or_more", "part-and-end": "part_and_end", "rep-length": "rep_length", "right-length": "right_length",
+          "right-not": "right_not", "selector-zero": "selector_zero", "twice-not-ten": "twice_not_ten", "two-or-more": "two_or_more",
           "n-and-1": "n_and_1", "m-and-m-times-n": "m_and_m_times_n", "rep-nil": "rep_nil", "one-Cell": "one_cell", "one_Cell": "one_cell", "readAt": "read_at", "applyAll'": "apply_all'"}
 
 
