@@ -1,7 +1,8 @@
 #!/usr/bin/env python3
-"""Brings the repository's own definitions and lemmas to the spelling of PORTING.md, part 3: words in snake case, a dash
-only between two names. Run once at the top, right after port.py; functions of src/, strings, inputs and outputs keep
-their names. `respell.py --list` prints old and new names and changes nothing."""
+"""Brings the repository's own definitions and lemmas to the spelling of today's Rattle: words in snake case, a dash
+only between a type or a definition and an operation of lists or numbers. Run once at the top, right after port.py;
+functions of src/, strings, inputs and outputs keep their names. `respell.py --list` prints old and new names and
+changes nothing."""
 import glob
 import re
 import sys
@@ -84,6 +85,11 @@ OTHERS = {"isT": "is_T", "isF": "is_F", "onT": "on_T", "onF": "on_F", "symbolT":
           "on-add": "on_add", "on-cond": "on_cond", "on-div": "on_div", "on-mul": "on_mul", "on-sub": "on_sub",
           "one-or-more": "one_or_more", "part-and-end": "part_and_end", "rep-length": "rep_length", "right-length": "right_length",
           "right-not": "right_not", "selector-zero": "selector_zero", "twice-not-ten": "twice_not_ten", "two-or-more": "two_or_more",
+          "applyAll-sub": "apply_all_sub", "apply_all-sub": "apply_all_sub", "chain-sub": "chain_sub", "condition-sub": "condition_sub",
+          "construct-sub": "construct_sub", "insert-sub": "insert_sub", "while-sub": "while_sub", "atom-not": "atom_not",
+          "other-not": "other_not", "plain-not": "plain_not", "select-not": "select_not", "select-zero": "select_zero",
+          "left-length": "left_length", "word-add": "word_add", "word-div": "word_div", "word-length": "word_length",
+          "word-mul": "word_mul", "word-not": "word_not", "word-or": "word_or", "word-reverse": "word_reverse", "word-sub": "word_sub",
           "n-and-1": "n_and_1", "m-and-m-times-n": "m_and_m_times_n", "rep-nil": "rep_nil", "one-Cell": "one_cell", "one_Cell": "one_cell", "readAt": "read_at", "applyAll'": "apply_all'"}
 
 
@@ -195,6 +201,8 @@ def main():
     for path in ghost_files():
         here = dict(new)
         crate = path.split("/")[1]
+        if crate in ("linker", "evaluator"):
+            here["is-chain"] = "is_chain"  # a constructor; no file there has the definition of that name
         for name in LEMMAS.get(crate, []):
             if re.sub(r"_(.)", lambda m: m.group(1).upper(), name) in new:
                 here[name] = name + "_lem"

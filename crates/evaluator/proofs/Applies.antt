@@ -25,7 +25,7 @@ use Rattle.tables.specs.Tables.{field}
 use Rattle.cells.specs.Cells.{Rep, free}
 use Rattle.cells.proofs.Reps.{same_refl, rep_ext}
 use Rattle.primitives.specs.Ends.{Gives, gives_value, gives_bottom, gives_spent, Leaf, Sinks}
-use Rattle.linker.specs.Linked.{FormIs, is_op, is_select, is_select_right, is_name, is_chain_lem, is_construct, is_insert, is_all, is_condition, is_while, is_constant, is_bu, form_at, linked_kind_at, constant_at}
+use Rattle.linker.specs.Linked.{FormIs, is_op, is_select, is_select_right, is_name, is_chain, is_construct, is_insert, is_all, is_condition, is_while, is_constant, is_bu, form_at, linked_kind_at, constant_at}
 use Rattle.evaluator.specs.Applying.{Setting, by, At, Given, Alone, a_word, a_select, a_select_right, a_constant, no_kind, Applied, Falls, Chained, Constructed, Mapped, Inserted, Bound, Chosen, Repeated, NameApplied, FormsCopied, Ran}
 use Rattle.primitives.specs.Leaves.{Coded}
 use Rattle.evaluator.proofs.Copies.{def_copied}
@@ -85,7 +85,7 @@ alone r h (is_select p) (no_kind n1 n2 n3 n12) g = absurd (n2 refl)
 alone r h (is_select_right p) (no_kind n1 n2 n3 n12) g = absurd (n3 refl)
 alone r h (is_constant p) (no_kind n1 n2 n3 n12) g = absurd (n12 refl)
 alone r h (is_name n p) a g = absurd (h.not4 refl)
-alone r h (is_chain_lem p) a g = absurd (h.not5 refl)
+alone r h (is_chain p) a g = absurd (h.not5 refl)
 alone r h (is_construct e p) a g = absurd (h.not6 refl)
 alone r h (is_insert p) a g = absurd (h.not7 refl)
 alone r h (is_all p) a g = absurd (h.not8 refl)
@@ -105,7 +105,7 @@ dispatch : {F C W C₁ W₁ : List ℕ} {κ top i : ℕ} {v : Val} {m : Meter} {
 dispatch {r = r} S k b p (on_word a) g = alone r bare_word p a g
 dispatch {r = r} S k b p (on_leaf h a) g = alone r h p a g
 dispatch {x = x} S k b (is_name {w = w} n p) (on_name q c) g = c.means S k w x n (q ∙ p) g
-dispatch {x = x} S k b (is_chain_lem {fs = fs} p) (on_chain q c) g = c.means S k fs x (rw q p) g
+dispatch {x = x} S k b (is_chain {fs = fs} p) (on_chain q c) g = c.means S k fs x (rw q p) g
 dispatch {i = i} {x = x} S k b (is_construct {fs = fs} e p) (on_construct {h = h} q z c) g = c.means S k fs x (e ∙ sym z) (rw (behind i h b q) at p) g
 dispatch {i = i} {x = x} S k b (is_insert {f = f} p) (on_insert {h = h} q c) g = c.means S k f x (rw (behind i h b q) at p) g
 dispatch {i = i} {x = x} S k b (is_all {f = f} p) (on_all {h = h} q c) g = c.means S k f x (rw (behind i h b q) at p) g

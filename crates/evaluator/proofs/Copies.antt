@@ -13,7 +13,7 @@ use Rattle.language.specs.Objects.{Obj}
 use Rattle.language.specs.Forms.{Form, Forms}
 use Rattle.tables.specs.Tables.{field}
 use Rattle.cells.specs.Cells.{Rep}
-use Rattle.linker.specs.Linked.{FormIs, is_op, is_select, is_select_right, is_name, is_chain_lem, is_construct, is_insert, is_all, is_condition, is_while, is_constant, is_bu, FormAt, form_at, PartsAt, no_part, a_part, UpTo, none_yet, one_more, DefAt, no_def, a_def, grouped, linked_kind_at, link_at, constant_at}
+use Rattle.linker.specs.Linked.{FormIs, is_op, is_select, is_select_right, is_name, is_chain, is_construct, is_insert, is_all, is_condition, is_while, is_constant, is_bu, FormAt, form_at, PartsAt, no_part, a_part, UpTo, none_yet, one_more, DefAt, no_def, a_def, grouped, linked_kind_at, link_at, constant_at}
 use Rattle.evaluator.specs.Applying.{FormsCopied}
 
 module _ {F T : List ℕ} (c : FormsCopied F T) where
@@ -42,7 +42,7 @@ module _ {F T C : List ℕ} {n : ℕ} {root : List ℕ → ℕ} (c : FormsCopied
     is_copied {i = i} l (is_select p) = is_select (part c i 2 l (omega arith) ∙ p)
     is_copied {i = i} l (is_select_right p) = is_select_right (part c i 2 l (omega arith) ∙ p)
     is_copied {i = i} l (is_name w p) = is_name w (part c i 1 l (omega arith) ∙ p)
-    is_copied {i = i} l (is_chain_lem {fs = fs} u) = is_chain_lem {i = i} {fs = fs} (rw (part c i 2 l (omega arith)) (up_copied u))
+    is_copied {i = i} l (is_chain {fs = fs} u) = is_chain {i = i} {fs = fs} (rw (part c i 2 l (omega arith)) (up_copied u))
     is_copied {i = i} l (is_construct e p) = is_construct (e ∙ sym (part c i 1 l (omega arith))) (parts_copied p)
     is_copied l (is_insert p) = is_insert (form_copied p)
     is_copied l (is_all p) = is_all (form_copied p)

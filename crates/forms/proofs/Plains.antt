@@ -302,6 +302,6 @@ module _ {s : List ℕ} {p k : ℕ} {j : PartJudged} (i : WordSized s p k) (h : 
     pub plain_name : j ≡ P.Name w → PlainPut n c (p + k) 4 w t r t' → PlainMet s p n c t r t'
     plain_name e q = plain_met (name_judged_lem (part_plain (word_at s p)) (judged_part (word_at s p)) (judged_here ∙ e)) q
 
-  pub plain-not : {n c w : ℕ} {t t' : List ℕ} → j ≡ P.Not w → PlainMet s p n c t (F.No w p) t'
+  pub plain_not : {n c w : ℕ} {t t' : List ℕ} → j ≡ P.Not w → PlainMet s p n c t (F.No w p) t'
   unfolding plain_at
-  plain-not e = record { means = λ u. rw (not_judged (part_plain (word_at s p)) (judged_here ∙ e)) (form_refused refl) }
+  plain_not e = record { means = λ u. rw (not_judged (part_plain (word_at s p)) (judged_here ∙ e)) (form_refused refl) }

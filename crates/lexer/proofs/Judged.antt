@@ -293,8 +293,8 @@ module _ {B R : Type 0} {told : Judged B → R} {judge number word : List ℕ �
 
 -- what is no digit and no letter, where an object may stand: a minus or nothing that fits
 module _ (b : ℕ) (ds : List ℕ) where
-  pub other-not : (b ≡ 45 → ⊥) → A.Not 6 ≡ atom_judged (atom_else b ds)
-  other-not m = rw (ne_eqb b 45 m)
+  pub other_not : (b ≡ 45 → ⊥) → A.Not 6 ≡ atom_judged (atom_else b ds)
+  other_not m = rw (ne_eqb b 45 m)
 
   pub other_minus : {r : AtomJudged} → b ≡ 45 → r ≡ atom_judged (judge_negative ds) → r ≡ atom_judged (atom_else b ds)
   other_minus m e = rw (eq-eqb b 45 m) e
@@ -376,8 +376,8 @@ module _ (s : List ℕ) (from to e : ℕ) (order : from ≤ to) (fits : to ≤ l
   more h = let k = spanned.high in let l = spanned.low in rw (slice_first s e to (less s e to (omega arith) fits h) fits)
 
   module _ {t : Bool} (selector : t ≡ is_selector (slice from e s)) where
-    pub select-not : e ≡ to → not t ≡ true → P.Not 8 ≡ part_judged (judge_selector (slice from to s))
-    select-not h n = rw (judge_is, whole h, sym selector ∙ not-true t n)
+    pub select_not : e ≡ to → not t ≡ true → P.Not 8 ≡ part_judged (judge_selector (slice from to s))
+    select_not h n = rw (judge_is, whole h, sym selector ∙ not-true t n)
 
     pub select_is : {v : ℕ} → e ≡ to → not t ≡ false → v ≡ min (value_of (slice from e s)) 2147483649 → P.Select v ≡ part_judged (judge_selector (slice from to s))
     select_is {v} h n v-is =

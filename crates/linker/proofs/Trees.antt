@@ -6,7 +6,7 @@ use mathlib.Core.List.{List}
 use lib.ListN.{get_or}
 use Rattle.language.specs.Forms.{Form, Forms, stop, ◌&◌, ◌+&◌}
 use Rattle.cells.proofs.Reps.{val_same}
-use Rattle.linker.specs.Linked.{grouped, linked_kind_at, link_at, constant_at, is_op, is_select, is_select_right, is_name, is_chain_lem, is_construct, is_insert, is_all, is_condition, is_while, is_constant, is_bu, FormAt, form_at, PartsAt, no_part, a_part, UpTo, none_yet, one_more}
+use Rattle.linker.specs.Linked.{grouped, linked_kind_at, link_at, constant_at, is_op, is_select, is_select_right, is_name, is_chain, is_construct, is_insert, is_all, is_condition, is_while, is_constant, is_bu, FormAt, form_at, PartsAt, no_part, a_part, UpTo, none_yet, one_more}
 use Rattle.linker.specs.Linking.{LinkedRow, row_op, row_select, row-select-right, row_name, row_construct, row_insert, row_all, row_condition, row_while, row_constant, row_bu, Tree, tree, tree_chain, Kids, no_kid, a_kid, Back, no_back, a_back}
 
 -- the numbers from lo up to hi are as they were
@@ -113,7 +113,7 @@ mutual
   form_of (tree l (row_while a) k) = let p = parts_of k in form_at l a (is_while (part_first p) (part_first (part_rest p)))
   form_of (tree l (row_constant a b) k) = form_at l a (is_constant b)
   form_of (tree l (row_bu a b) k) = form_at l a (is_bu (part_first (parts_of k)) b)
-  form_of {i = i} (tree_chain l a b) = form_at l a (is_chain_lem (up_to stop b (omega arith) (none_yet refl)))
+  form_of {i = i} (tree_chain l a b) = form_at l a (is_chain (up_to stop b (omega arith) (none_yet refl)))
 
   pub parts_of : {F C : List ℕ} {n : ℕ} {root : List ℕ → ℕ} {j e : ℕ} {fs : Forms} → Kids F C n root j fs e → PartsAt F C n root j fs
   parts_of no_kid = no_part

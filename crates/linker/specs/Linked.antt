@@ -34,7 +34,7 @@ mutual
     is_select : {i k : ℕ} → field F i 2 ≡ k → FormIs F C n root 2 i (word (select k))
     is_select_right : {i k : ℕ} → field F i 2 ≡ k → FormIs F C n root 3 i (word (select_right k))
     is_name : {i : ℕ} {w : List ℕ} → IsName w → field F i 1 ≡ root w → FormIs F C n root 4 i (name w)
-    is_chain_lem : {i : ℕ} {fs : Forms} → UpTo F C n root (field F i 2) fs → FormIs F C n root 5 i (chain fs)
+    is_chain : {i : ℕ} {fs : Forms} → UpTo F C n root (field F i 2) fs → FormIs F C n root 5 i (chain fs)
     is_construct : {i : ℕ} {fs : Forms} → count fs ≡ field F i 1 → PartsAt F C n root (i + 1) fs → FormIs F C n root 6 i (construct fs)
     is_insert : {i : ℕ} {f : Form} → FormAt F C n root (i + 1) f → FormIs F C n root 7 i (insert f)
     is_all : {i : ℕ} {f : Form} → FormAt F C n root (i + 1) f → FormIs F C n root 8 i (apply_all f)

@@ -98,8 +98,8 @@ module _ {s : List ℕ} {p used n : ℕ} (z : L.WordSized s p n) where
       record { ahead = no_ahead refl; means = λ C. rw w (refuses refl) }
 
   module _ {j : AtomJudged} (h : j ≡ atom_judged (judge_atom (slice p (p + n) s))) where
-    pub atom-not : {k : ℕ} → j ≡ A.Not k → AtomReading s p used (O.No k p)
-    atom-not {k} e = record { ahead = no_ahead refl; means = λ C. judged z h (λ J. ReadMeets C used (O.No k p) C (as_judged s p J)) (λ w J m f. go C J f) }
+    pub atom_not : {k : ℕ} → j ≡ A.Not k → AtomReading s p used (O.No k p)
+    atom_not {k} e = record { ahead = no_ahead refl; means = λ C. judged z h (λ J. ReadMeets C used (O.No k p) C (as_judged s p J)) (λ w J m f. go C J f) }
       where
         go : (C : List ℕ) (J : Judged Obj) → j ≡ atom_judged J → ReadMeets C used (O.No k p) C (as_judged s p J)
         go C (is x) f = let y : ◌≡◌ {A = ℕ} 0 1 = cc in absurd (omega arith)

@@ -197,13 +197,13 @@ pub word_null : {C : List ℕ} {v : Val} {m : Meter} {code : ℕ} {r : Ended} �
 unfolding op_code
 word_null e g = coded_plain Op.null e g
 
-pub word-length : {C : List ℕ} {v : Val} {m : Meter} {code : ℕ} {r : Ended} → code ≡ 6 → Plain v m (op Op.length) r → Coded C v m code r C
+pub word_length : {C : List ℕ} {v : Val} {m : Meter} {code : ℕ} {r : Ended} → code ≡ 6 → Plain v m (op Op.length) r → Coded C v m code r C
 unfolding op_code
-word-length e g = coded_plain Op.length e g
+word_length e g = coded_plain Op.length e g
 
-pub word-not : {C : List ℕ} {v : Val} {m : Meter} {code : ℕ} {r : Ended} → code ≡ 13 → Plain v m (op Op.not) r → Coded C v m code r C
+pub word_not : {C : List ℕ} {v : Val} {m : Meter} {code : ℕ} {r : Ended} → code ≡ 13 → Plain v m (op Op.not) r → Coded C v m code r C
 unfolding op_code
-word-not e g = coded_plain Op.not e g
+word_not e g = coded_plain Op.not e g
 
 pub word_tlr : {C C' : List ℕ} {v : Val} {m : Meter} {code : ℕ} {r : Ended} → code ≡ 15 → Leaf C v m (op Op.tlr) r C' → Coded C v m code r C'
 unfolding op_code
@@ -213,9 +213,9 @@ pub word_trans : {C C' : List ℕ} {v : Val} {m : Meter} {code : ℕ} {r : Ended
 unfolding op_code
 word_trans e g = coded Op.trans e g
 
-pub word-reverse : {C C' : List ℕ} {v : Val} {m : Meter} {code : ℕ} {r : Ended} → code ≡ 16 → Ordered C v m 16 r C' → Coded C v m code r C'
+pub word_reverse : {C C' : List ℕ} {v : Val} {m : Meter} {code : ℕ} {r : Ended} → code ≡ 16 → Ordered C v m 16 r C' → Coded C v m code r C'
 unfolding op_code
-word-reverse e g = coded Op.reverse e (leaf_order Op.reverse order_reverse (λ x. refl) g)
+word_reverse e g = coded Op.reverse e (leaf_order Op.reverse order_reverse (λ x. refl) g)
 
 pub word_rotl : {C C' : List ℕ} {v : Val} {m : Meter} {code : ℕ} {r : Ended} → code ≡ 17 → Ordered C v m 17 r C' → Coded C v m code r C'
 unfolding op_code
@@ -233,29 +233,29 @@ pub word_lt : {C : List ℕ} {a b : Val} {m : Meter} {code : ℕ} {r : Ended} �
 unfolding op_code
 word_lt e g = coded_plain_two Op.lt e g
 
-pub word-add : {C : List ℕ} {a b : Val} {m : Meter} {code : ℕ} {r : Ended} → code ≡ 7 → PlainTwo a b m (op Op.add) r → CodedTwo C a b m code r C
+pub word_add : {C : List ℕ} {a b : Val} {m : Meter} {code : ℕ} {r : Ended} → code ≡ 7 → PlainTwo a b m (op Op.add) r → CodedTwo C a b m code r C
 unfolding op_code
-word-add e g = coded_plain_two Op.add e g
+word_add e g = coded_plain_two Op.add e g
 
-pub word-sub : {C : List ℕ} {a b : Val} {m : Meter} {code : ℕ} {r : Ended} → code ≡ 8 → PlainTwo a b m (op Op.sub) r → CodedTwo C a b m code r C
+pub word_sub : {C : List ℕ} {a b : Val} {m : Meter} {code : ℕ} {r : Ended} → code ≡ 8 → PlainTwo a b m (op Op.sub) r → CodedTwo C a b m code r C
 unfolding op_code
-word-sub e g = coded_plain_two Op.sub e g
+word_sub e g = coded_plain_two Op.sub e g
 
-pub word-mul : {C : List ℕ} {a b : Val} {m : Meter} {code : ℕ} {r : Ended} → code ≡ 9 → PlainTwo a b m (op Op.mul) r → CodedTwo C a b m code r C
+pub word_mul : {C : List ℕ} {a b : Val} {m : Meter} {code : ℕ} {r : Ended} → code ≡ 9 → PlainTwo a b m (op Op.mul) r → CodedTwo C a b m code r C
 unfolding op_code
-word-mul e g = coded_plain_two Op.mul e g
+word_mul e g = coded_plain_two Op.mul e g
 
-pub word-div : {C : List ℕ} {a b : Val} {m : Meter} {code : ℕ} {r : Ended} → code ≡ 10 → PlainTwo a b m (op Op.div) r → CodedTwo C a b m code r C
+pub word_div : {C : List ℕ} {a b : Val} {m : Meter} {code : ℕ} {r : Ended} → code ≡ 10 → PlainTwo a b m (op Op.div) r → CodedTwo C a b m code r C
 unfolding op_code
-word-div e g = coded_plain_two Op.div e g
+word_div e g = coded_plain_two Op.div e g
 
 pub word_and : {C : List ℕ} {a b : Val} {m : Meter} {code : ℕ} {r : Ended} → code ≡ 11 → PlainTwo a b m (op Op.and) r → CodedTwo C a b m code r C
 unfolding op_code
 word_and e g = coded_plain_two Op.and e g
 
-pub word-or : {C : List ℕ} {a b : Val} {m : Meter} {code : ℕ} {r : Ended} → code ≡ 12 → PlainTwo a b m (op Op.or) r → CodedTwo C a b m code r C
+pub word_or : {C : List ℕ} {a b : Val} {m : Meter} {code : ℕ} {r : Ended} → code ≡ 12 → PlainTwo a b m (op Op.or) r → CodedTwo C a b m code r C
 unfolding op_code
-word-or e g = coded_plain_two Op.or e g
+word_or e g = coded_plain_two Op.or e g
 
 pub word_apndl : {C C' : List ℕ} {a b : Val} {m : Meter} {code : ℕ} {r : Ended} → code ≡ 14 → LeafTwo C a b m (op Op.apndl) r C' → CodedTwo C a b m code r C'
 unfolding op_code

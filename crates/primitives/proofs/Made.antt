@@ -106,9 +106,9 @@ but_last_length : (xs : Objs) → length_of (all_but_last xs) ≡ length_of xs -
 but_last_length nil = omega arith
 but_last_length (x :: xs) = length_but_last x xs ∙ (omega arith)
 
-left-length : (xs : Objs) → length_of (to_left xs) ≡ length_of xs
-left-length nil = refl
-left-length (x :: xs) = length_append_one xs x
+left_length : (xs : Objs) → length_of (to_left xs) ≡ length_of xs
+left_length nil = refl
+left_length (x :: xs) = length_append_one xs x
 
 right_length : (xs : Objs) → length_of (to_right xs) ≡ length_of xs
 right_length nil = refl
@@ -117,7 +117,7 @@ right_length (x :: xs) = ap suc (length_but_last x xs)
 order_length : {code : ℕ} {o : Op} {f : Objs → Objs} → Orders code o f → (xs : Objs) → length_of (f xs) ≡ cells_by (entry o).rule (length_of xs) 0
 order_length order_tlr xs = but_last_length xs
 order_length order_reverse xs = length_turned xs
-order_length order_rotl xs = left-length xs
+order_length order_rotl xs = left_length xs
 order_length order_rotr xs = right_length xs
 
 pub order_atom : {C : List ℕ} {v : Val} {m : Meter} {code : ℕ} → (v.tag ≡ 3 → ⊥) → Ordered C v m code (Stop 21 m) C

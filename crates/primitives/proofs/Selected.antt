@@ -80,8 +80,8 @@ select_atom {k = k} h = leaf_falls (λ x o r. no_seq h r (λ xs. pick (from_left
 pub right_atom : {C : List ℕ} {v : Val} {m : Meter} {k : ℕ} → (v.tag ≡ 3 → ⊥) → Leaf C v m (select_right k) (Stop 21 m) C
 right_atom {k = k} h = leaf_falls (λ x o r. no_seq h r (λ xs. pick (from_right k (length_of xs)) xs))
 
-pub select-zero : {C : List ℕ} {v : Val} {m : Meter} {k : ℕ} → v.tag ≡ 3 → k ≡ 0 → Leaf C v m (select k) (Stop 21 m) C
-select-zero h z = leaf_falls (λ x o r. rw ((seq_of h r).is, z))
+pub select_zero : {C : List ℕ} {v : Val} {m : Meter} {k : ℕ} → v.tag ≡ 3 → k ≡ 0 → Leaf C v m (select k) (Stop 21 m) C
+select_zero h z = leaf_falls (λ x o r. rw ((seq_of h r).is, z))
 
 pub right_zero : {C : List ℕ} {v : Val} {m : Meter} {k : ℕ} → v.tag ≡ 3 → k ≡ 0 → Leaf C v m (select_right k) (Stop 21 m) C
 right_zero h z = leaf_falls (λ x o r. rw ((seq_of h r).is, z))

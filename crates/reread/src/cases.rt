@@ -54,7 +54,7 @@ fn read_number(file: &mut File) -> io::Result<u64> {
     Ok(number(b[0], b[1], b[2], b[3]))
 }
 
-// How much of the output may be written: all of it, or what the case says.
+// How much of the output may be written: all of it, or what the case says. After an error some of the file has been read.
 fn read_room(file: &mut File, short: bool) -> io::Result<usize>
     ensures { IfOk result (λ n. n ≤ 16384) }
 {

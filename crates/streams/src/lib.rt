@@ -5,7 +5,8 @@ ghost use Rattle.std.specs.Prelude.{◌≡◌, ◌≤◌, length, IfOk};
 
 use std::io::{self, Read};
 
-// Reads until buf is full or the input ends, and gives how many bytes it put at the start of buf.
+// Reads until buf is full or the input ends, and gives how many bytes it put at the start of buf. After an error some of buf
+// may be written.
 pub fn read_full<R: Read>(input: &mut R, buf: &mut [u8]) -> io::Result<usize>
     ensures { IfOk result (λ n. n ≤ length buf.new) }
 {

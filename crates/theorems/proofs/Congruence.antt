@@ -84,8 +84,8 @@ module _ (e : Edition) (Q : Prog) (R : Rel) (k : Closed R) where
       let B = p _ _ _ _ D in
       record { d' = _; s' = _; c' = _; ends = parts_go B.ends E; rel = k.add B.rel (k.same _ _ _) }
 
-  pub chain-sub : {fs fs' : Forms} (x : Obj) → Sub e Q R (parts fs x) (parts fs' x) → Sub e Q R (just (chain fs) x) (just (chain fs') x)
-  chain-sub x p d r s c (chain_in D) =
+  pub chain_sub : {fs fs' : Forms} (x : Obj) → Sub e Q R (parts fs x) (parts fs' x) → Sub e Q R (just (chain fs) x) (just (chain fs') x)
+  chain_sub x p d r s c (chain_in D) =
       let B = p _ _ _ _ D in
       record { d' = _; s' = _; c' = _; ends = chain_in B.ends; rel = k.tick B.rel }
 
@@ -109,11 +109,11 @@ module _ (e : Edition) (Q : Prog) (R : Rel) (k : Closed R) where
       let B = p _ _ _ _ E in
       record { d' = _; s' = _; c' = _; ends = items_go D B.ends; rel = k.add (k.same _ _ _) B.rel }
 
-  pub construct-sub : {fs fs' : Forms} (x : Obj) → Sub e Q R (items fs x) (items fs' x) → Sub e Q R (just (construct fs) x) (just (construct fs') x)
-  construct-sub x p d r s c (construct_object D) =
+  pub construct_sub : {fs fs' : Forms} (x : Obj) → Sub e Q R (items fs x) (items fs' x) → Sub e Q R (just (construct fs) x) (just (construct fs') x)
+  construct_sub x p d r s c (construct_object D) =
       let B = p _ _ _ _ D in
       record { d' = _; s' = _; c' = _; ends = construct_object B.ends; rel = k.tick (k.more' _ B.rel) }
-  construct-sub x p d r s c (construct_bottom D) =
+  construct_sub x p d r s c (construct_bottom D) =
       let B = p _ _ _ _ D in
       record { d' = _; s' = _; c' = _; ends = construct_bottom B.ends; rel = k.tick B.rel }
 
@@ -131,15 +131,15 @@ module _ (e : Edition) (Q : Prog) (R : Rel) (k : Closed R) where
       let B' = each_sub p _ _ _ _ E in
       record { d' = _; s' = _; c' = _; ends = each_go B.ends B'.ends; rel = k.add B.rel B'.rel }
 
-  pub apply_all-sub : {f f' : Form} → SubF e Q R f f' → SubF e Q R (apply_all f) (apply_all f')
-  apply_all-sub p x d r s c (apply_all_object D) =
+  pub apply_all_sub : {f f' : Form} → SubF e Q R f f' → SubF e Q R (apply_all f) (apply_all f')
+  apply_all_sub p x d r s c (apply_all_object D) =
       let B = each_sub p _ _ _ _ D in
       record { d' = _; s' = _; c' = _; ends = apply_all_object B.ends; rel = k.tick (k.more' _ B.rel) }
-  apply_all-sub p x d r s c (apply_all_bottom D) =
+  apply_all_sub p x d r s c (apply_all_bottom D) =
       let B = each_sub p _ _ _ _ D in
       record { d' = _; s' = _; c' = _; ends = apply_all_bottom B.ends; rel = k.tick B.rel }
-  apply_all-sub p x d r s c apply_all_int = record { d' = _; s' = _; c' = _; ends = apply_all_int; rel = k.same _ _ _ }
-  apply_all-sub p x d r s c apply_all_symbol = record { d' = _; s' = _; c' = _; ends = apply_all_symbol; rel = k.same _ _ _ }
+  apply_all_sub p x d r s c apply_all_int = record { d' = _; s' = _; c' = _; ends = apply_all_int; rel = k.same _ _ _ }
+  apply_all_sub p x d r s c apply_all_symbol = record { d' = _; s' = _; c' = _; ends = apply_all_symbol; rel = k.same _ _ _ }
 
   pub fold_sub : {f f' : Form} → SubF e Q R f f' → {y : Obj} {ys : Objs} → Sub e Q R (fold f y ys) (fold f' y ys)
   fold_sub p d r s c fold_one = record { d' = _; s' = _; c' = _; ends = fold_one; rel = k.same _ _ _ }
@@ -151,31 +151,31 @@ module _ (e : Edition) (Q : Prog) (R : Rel) (k : Closed R) where
       let B' = p _ _ _ _ _ E in
       record { d' = _; s' = _; c' = _; ends = fold_go B.ends B'.ends; rel = k.add B.rel (k.more 2 B'.rel) }
 
-  pub insert-sub : {f f' : Form} → SubF e Q R f f' → SubF e Q R (insert f) (insert f')
-  insert-sub p x d r s c (insert_fold D) =
+  pub insert_sub : {f f' : Form} → SubF e Q R f f' → SubF e Q R (insert f) (insert f')
+  insert_sub p x d r s c (insert_fold D) =
       let B = fold_sub p _ _ _ _ D in
       record { d' = _; s' = _; c' = _; ends = insert_fold B.ends; rel = k.tick B.rel }
-  insert-sub p x d r s c insert-nil = record { d' = _; s' = _; c' = _; ends = insert-nil; rel = k.same _ _ _ }
-  insert-sub p x d r s c insert_int = record { d' = _; s' = _; c' = _; ends = insert_int; rel = k.same _ _ _ }
-  insert-sub p x d r s c insert_symbol = record { d' = _; s' = _; c' = _; ends = insert_symbol; rel = k.same _ _ _ }
+  insert_sub p x d r s c insert-nil = record { d' = _; s' = _; c' = _; ends = insert-nil; rel = k.same _ _ _ }
+  insert_sub p x d r s c insert_int = record { d' = _; s' = _; c' = _; ends = insert_int; rel = k.same _ _ _ }
+  insert_sub p x d r s c insert_symbol = record { d' = _; s' = _; c' = _; ends = insert_symbol; rel = k.same _ _ _ }
 
   pub bu_sub : {f f' : Form} (y : Obj) → SubF e Q R f f' → SubF e Q R (bu f y) (bu f' y)
   bu_sub y p x d r s c (bu_in D) =
       let B = p _ _ _ _ _ D in
       record { d' = _; s' = _; c' = _; ends = bu_in B.ends; rel = k.tick (k.more 2 B.rel) }
 
-  pub condition-sub : {p p' f f' g g' : Form} → SubF e Q R p p' → SubF e Q R f f' → SubF e Q R g g' → SubF e Q R (condition p f g) (condition p' f' g')
-  condition-sub p f g x d r s c (condition_bottom D) =
+  pub condition_sub : {p p' f f' g g' : Form} → SubF e Q R p p' → SubF e Q R f f' → SubF e Q R g g' → SubF e Q R (condition p f g) (condition p' f' g')
+  condition_sub p f g x d r s c (condition_bottom D) =
       let B = p _ _ _ _ _ D in
       record { d' = _; s' = _; c' = _; ends = condition_bottom B.ends; rel = k.tick B.rel }
-  condition-sub p f g x d r s c (condition_no D h) =
+  condition_sub p f g x d r s c (condition_no D h) =
       let B = p _ _ _ _ _ D in
       record { d' = _; s' = _; c' = _; ends = condition_no B.ends h; rel = k.tick B.rel }
-  condition-sub p f g x d r s c (condition_T D h E) =
+  condition_sub p f g x d r s c (condition_T D h E) =
       let B = p _ _ _ _ _ D in
       let B' = f _ _ _ _ _ E in
       record { d' = _; s' = _; c' = _; ends = condition_T B.ends h B'.ends; rel = k.tick (k.add B.rel B'.rel) }
-  condition-sub p f g x d r s c (condition_F D h E) =
+  condition_sub p f g x d r s c (condition_F D h E) =
       let B = p _ _ _ _ _ D in
       let B' = g _ _ _ _ _ E in
       record { d' = _; s' = _; c' = _; ends = condition_F B.ends h B'.ends; rel = k.tick (k.add B.rel B'.rel) }
@@ -200,7 +200,7 @@ module _ (e : Edition) (Q : Prog) (R : Rel) (k : Closed R) where
       let B'' = loop_sub p f _ _ _ _ F in
       record { d' = _; s' = _; c' = _; ends = loop_go B.ends h B'.ends B''.ends; rel = k.add B.rel (k.add B'.rel B''.rel) }
 
-  pub while-sub : {p p' f f' : Form} → SubF e Q R p p' → SubF e Q R f f' → SubF e Q R (while p f) (while p' f')
-  while-sub p f x d r s c (while_in D) =
+  pub while_sub : {p p' f f' : Form} → SubF e Q R p p' → SubF e Q R f f' → SubF e Q R (while p f) (while p' f')
+  while_sub p f x d r s c (while_in D) =
       let B = loop_sub p f _ _ _ _ D in
       record { d' = _; s' = _; c' = _; ends = while_in B.ends; rel = k.tick B.rel }

@@ -7,7 +7,7 @@ use Rattle.language.specs.Forms.{Word, Form, word, chain, construct, insert, app
 use Rattle.language.specs.Numbers.{Edition}
 use Rattle.language.specs.Meanings.{WordAnswer, falls, gives, meaning}
 use Rattle.theorems.proofs.Ends.{Job, just, parts, items, Result, object, bottom, Ends, word_bottom, word_object}
-use Rattle.theorems.proofs.Congruence.{Less, Less-closed, Any, Any-closed, Better, Sub, sub_refl, sub_trans, parts_head, parts_tail, chain-sub, items_head, items_tail, construct-sub, insert-sub, apply_all-sub, bu_sub, condition-sub, while-sub}
+use Rattle.theorems.proofs.Congruence.{Less, Less-closed, Any, Any-closed, Better, Sub, sub_refl, sub_trans, parts_head, parts_tail, chain_sub, items_head, items_tail, construct_sub, insert_sub, apply_all_sub, bu_sub, condition_sub, while_sub}
 
 module _ (e : Edition) (Q : Prog) where
   pub less : {d s c d' s' c' : ℕ} {j : Job} {r : Result} → Ends e Q d' j r s' c' → d' ≤ d → s' ≤ s → c' ≤ c → Better e Q Less d j r s c
@@ -69,7 +69,7 @@ pub part_tail : (f : Form) {fs fs' : Forms} (e : Edition) (Q : Prog) → ImpP e 
 part_tail f e Q p x = record { fwd = parts_tail e Q Less Less-closed f x (p x).fwd; bwd = parts_tail e Q Any Any-closed f x (p x).bwd }
 
 pub in_chain_lem : {fs fs' : Forms} (e : Edition) (Q : Prog) → ImpP e Q fs fs' → ImpF e Q (chain fs) (chain fs')
-in_chain_lem e Q p x = record { fwd = chain-sub e Q Less Less-closed x (p x).fwd; bwd = chain-sub e Q Any Any-closed x (p x).bwd }
+in_chain_lem e Q p x = record { fwd = chain_sub e Q Less Less-closed x (p x).fwd; bwd = chain_sub e Q Any Any-closed x (p x).bwd }
 
 pub item_head : {f f' : Form} (fs : Forms) (e : Edition) (Q : Prog) → ImpF e Q f f' → ImpI e Q (f & fs) (f' & fs)
 item_head fs e Q p x = record { fwd = items_head e Q Less Less-closed fs (λ y. (p y).fwd) x; bwd = items_head e Q Any Any-closed fs (λ y. (p y).bwd) x }
@@ -78,23 +78,23 @@ pub item_tail : (f : Form) {fs fs' : Forms} (e : Edition) (Q : Prog) → ImpI e 
 item_tail f e Q p x = record { fwd = items_tail e Q Less Less-closed f x (p x).fwd; bwd = items_tail e Q Any Any-closed f x (p x).bwd }
 
 pub in_construct : {fs fs' : Forms} (e : Edition) (Q : Prog) → ImpI e Q fs fs' → ImpF e Q (construct fs) (construct fs')
-in_construct e Q p x = record { fwd = construct-sub e Q Less Less-closed x (p x).fwd; bwd = construct-sub e Q Any Any-closed x (p x).bwd }
+in_construct e Q p x = record { fwd = construct_sub e Q Less Less-closed x (p x).fwd; bwd = construct_sub e Q Any Any-closed x (p x).bwd }
 
 pub in_insert : {f f' : Form} (e : Edition) (Q : Prog) → ImpF e Q f f' → ImpF e Q (insert f) (insert f')
-in_insert e Q p x = record { fwd = insert-sub e Q Less Less-closed (λ y. (p y).fwd) x; bwd = insert-sub e Q Any Any-closed (λ y. (p y).bwd) x }
+in_insert e Q p x = record { fwd = insert_sub e Q Less Less-closed (λ y. (p y).fwd) x; bwd = insert_sub e Q Any Any-closed (λ y. (p y).bwd) x }
 
 pub in_apply_all : {f f' : Form} (e : Edition) (Q : Prog) → ImpF e Q f f' → ImpF e Q (apply_all f) (apply_all f')
-in_apply_all e Q p x = record { fwd = apply_all-sub e Q Less Less-closed (λ y. (p y).fwd) x; bwd = apply_all-sub e Q Any Any-closed (λ y. (p y).bwd) x }
+in_apply_all e Q p x = record { fwd = apply_all_sub e Q Less Less-closed (λ y. (p y).fwd) x; bwd = apply_all_sub e Q Any Any-closed (λ y. (p y).bwd) x }
 
 pub in_bu : {f f' : Form} (y : Obj) (e : Edition) (Q : Prog) → ImpF e Q f f' → ImpF e Q (bu f y) (bu f' y)
 in_bu y e Q p x = record { fwd = bu_sub e Q Less Less-closed y (λ z. (p z).fwd) x; bwd = bu_sub e Q Any Any-closed y (λ z. (p z).bwd) x }
 
 pub in_condition : {p p' f f' g g' : Form} (e : Edition) (Q : Prog) → ImpF e Q p p' → ImpF e Q f f' → ImpF e Q g g' → ImpF e Q (condition p f g) (condition p' f' g')
 in_condition e Q p f g x =
-    record { fwd = condition-sub e Q Less Less-closed (λ y. (p y).fwd) (λ y. (f y).fwd) (λ y. (g y).fwd) x; bwd = condition-sub e Q Any Any-closed (λ y. (p y).bwd) (λ y. (f y).bwd) (λ y. (g y).bwd) x }
+    record { fwd = condition_sub e Q Less Less-closed (λ y. (p y).fwd) (λ y. (f y).fwd) (λ y. (g y).fwd) x; bwd = condition_sub e Q Any Any-closed (λ y. (p y).bwd) (λ y. (f y).bwd) (λ y. (g y).bwd) x }
 
 pub in_while : {p p' f f' : Form} (e : Edition) (Q : Prog) → ImpF e Q p p' → ImpF e Q f f' → ImpF e Q (while p f) (while p' f')
-in_while e Q p f x = record { fwd = while-sub e Q Less Less-closed (λ y. (p y).fwd) (λ y. (f y).fwd) x; bwd = while-sub e Q Any Any-closed (λ y. (p y).bwd) (λ y. (f y).bwd) x }
+in_while e Q p f x = record { fwd = while_sub e Q Less Less-closed (λ y. (p y).fwd) (λ y. (f y).fwd) x; bwd = while_sub e Q Any Any-closed (λ y. (p y).bwd) (λ y. (f y).bwd) x }
 
 pub same : {f : Form} (e : Edition) (Q : Prog) → ImpF e Q f f
 same e Q x = imp_refl e Q _

@@ -1,5 +1,5 @@
 -- `judge_atom` judges what stands where an object may stand, by its first byte. Assumes nothing.
-use Rattle.lexer.proofs.Judged.{atoms, first_none, first_number, first_word, first_other, other-not, other_minus}
+use Rattle.lexer.proofs.Judged.{atoms, first_none, first_number, first_word, first_other, other_not, other_minus}
 use Rattle.lexer.proofs.judging.judge_atom.Goals as goal
 
 pub returns-then-n-eq0 : goal.returns-then-n-eq0
@@ -12,7 +12,7 @@ pub returns-then-is_letter : goal.returns-then-is_letter
 returns-then-is_letter c = search (first_word atoms)
 
 pub returns-then-b-ne45 : goal.returns-then-b-ne45
-returns-then-b-ne45 c = search (first_other atoms, other-not)
+returns-then-b-ne45 c = search (first_other atoms, other_not)
 
 pub returns : goal.returns
 returns c = search (first_other atoms, other_minus)

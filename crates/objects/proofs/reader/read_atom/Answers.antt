@@ -1,5 +1,5 @@
 -- A word or number is what it is judged to be.
-use Rattle.objects.proofs.ObjectReads.{atom_empty, atom-not, atom_is}
+use Rattle.objects.proofs.ObjectReads.{atom_empty, atom_not, atom_is}
 use Rattle.objects.proofs.reader.read_atom.Goals as goal
 
 pub returns-then-n-eq0 : goal.returns-then-n-eq0
@@ -9,4 +9,4 @@ pub returns-in-Is : goal.returns-in-Is
 returns-in-Is c = search atom_is
 
 pub returns-in-Not : goal.returns-in-Not
-returns-in-Not c = search atom-not
+returns-in-Not c = search atom_not
