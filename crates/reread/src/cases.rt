@@ -1,7 +1,7 @@
 // The cases of a file, one after the other.
 ghost use Rattle.std.specs.Prelude.{◌≡◌, ◌<◌, ◌≤◌, length, IfOk};
 
-use super::{Reread, lines, rereading};
+use super::{lines, rereading};
 use std::fs::File;
 use std::io;
 

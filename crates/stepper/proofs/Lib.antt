@@ -1,3 +1,3 @@
--- What the proofs of several functions use, and that stepping through a text ends.
+-- That stepping through a text ends; and what a reader's text and place give to a step of the word reader.
 pub mod Ending
 mod Passed
