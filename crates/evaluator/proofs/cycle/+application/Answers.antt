@@ -123,7 +123,7 @@ pub name-apply-requires : goal.name-apply-requires
 name-apply-requires t c = search (below_open, rules)
 
 pub name-close_name-back-requires : goal.name-close_name-back-requires
-name-close_name-back-requires t c = search (may_close, rules)
+name-close_name-back-requires t c = may_close c.args.m c.apply.ensures c.in-Done.is c.open_name.ensures c.in-Granted.is (search rules)
 
 pub name-returns-in-Spent : goal.name-returns-in-Spent
 name-returns-in-Spent t c = search name_full
@@ -132,7 +132,7 @@ pub name-returns-in-Stop : goal.name-returns-in-Stop
 name-returns-in-Stop t c = search name_stop
 
 pub name-returns-in-Done : goal.name-returns-in-Done
-name-returns-in-Done t c = search name_done
+name-returns-in-Done t c = name_done c.if-d-eq0.false c.open_name.ensures c.in-Granted.is c.apply.ensures c.in-Done.is c.close_name-back.ensures
 
 pub repeat-loop-a-init : goal.repeat-loop-a-init
 repeat-loop-a-init t c = search repeat_start
@@ -168,7 +168,7 @@ pub step-name-requires : goal.step-name-requires
 step-name-requires t c = search (below_step, rules)
 
 pub step-chain-requires : goal.step-chain-requires
-step-chain-requires t c = search (below_step, rules)
+step-chain-requires t c = (below_step _ c.in-Granted.k t c.charge_step.ensures c.in-Granted.is c.decreases, tt)
 
 pub step-construct-requires : goal.step-construct-requires
 step-construct-requires t c = search (below_step, rules)

@@ -9,4 +9,4 @@ pub returns-in-Is : goal.returns-in-Is
 returns-in-Is c = search atom_is
 
 pub returns-in-Not : goal.returns-in-Not
-returns-in-Not c = search atom_not
+returns-in-Not c = atom_not c.size_at-n.ensures c.judge_atom.ensures c.in-Not.is
