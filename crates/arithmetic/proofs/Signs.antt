@@ -1,15 +1,13 @@
 -- The operations on tags and words are those on the integers, sign by sign.
 use Prim.Native.Nat.{ℕ, zero, suc, ◌+◌, ◌-◌, ◌*◌, ◌/◌, ◌≤◌, ◌<◌}
 use mathlib.Core.Path.{◌≡◌, refl, sym, ap, subst, ◌∙◌}
-use mathlib.Core.Bool.{Bool}
 use native.Mathlib.Omega.{arith}
 use native.Mathlib.Nat.{mul-le-mul}
-use lib.Dec.{eqb, ltb}
-use lib.IntN.{ℤ, pos, negsuc, neg_ℤ, sub_ℕ, ◌+ℤ◌, ◌-ℤ◌, ◌*ℤ◌}
-use lib.Signed.{lt_z, quot_z}
-use borrow.Author.Tests.{lt-ltb, le-ltb, eq-eqb, ne_eqb}
+use lib.IntN.{ℤ, pos, negsuc, neg_ℤ, sub_ℕ, ◌+ℤ◌, ◌*ℤ◌}
+use lib.Signed.{quot_z}
+use borrow.Author.Tests.{lt-ltb, le-ltb}
 use Rattle.language.specs.declared.Val.{Val}
-use Rattle.arithmetic.specs.Integers.{HoldsInteger, holds_pos, holds_neg, SmallInteger, Short, Computes, Negated, Less}
+use Rattle.arithmetic.specs.Integers.{HoldsInteger, holds_pos, holds_neg, Computes}
 
 pub pos_is : {v : Val} (k : ℕ) → v.tag ≡ 0 → v.word ≡ k → HoldsInteger v (pos k)
 pos_is k t w = holds_pos t w
@@ -30,28 +28,6 @@ difference_below x y h t w = rw (lt-ltb x y h) (neg_is (y - suc x) t (omega arit
 
 pub difference_above : {v : Val} (x y : ℕ) → y ≤ x → v.tag ≡ 0 → v.word ≡ x - y → HoldsInteger v (sub_ℕ x y)
 difference_above x y h t w = rw (le-ltb x y h) (pos_is (x - y) t w)
-
--- ---- the other sign
-pos_small : {r : Val} (k : ℕ) → k ≤ 2147483648 → HoldsInteger r (pos k) → SmallInteger r
-pos_small k h (holds_pos t w) = record { tag = omega arith; word = omega arith }
-
-neg_small : {r : Val} (k : ℕ) → k ≤ 2147483648 → HoldsInteger r (neg_ℤ (pos k)) → SmallInteger r
-neg_small zero h (holds_pos t w) = record { tag = omega arith; word = omega arith }
-neg_small (suc k) h (holds_neg t w) = record { tag = omega arith; word = omega arith }
-
-pub negated_negative : {v r : Val} → Short v → v.tag ≡ 1 → HoldsInteger r (pos (v.word + 1)) → Negated v r
-negated_negative {v} {r} s e h = record { small = pos_small (v.word + 1) (omega (arith, s.word)) h; means = go }
-  where
-    go : (i : ℤ) → HoldsInteger v i → HoldsInteger r (neg_ℤ i)
-    go (pos k) (holds_pos f g) = absurd (omega arith)
-    go (negsuc k) (holds_neg f g) = let u : v.word + 1 ≡ suc k = omega arith in rw u at h
-
-pub negated_positive : {v r : Val} → Short v → (v.tag ≡ 1 → ⊥) → HoldsInteger r (neg_ℤ (pos v.word)) → Negated v r
-negated_positive {v} {r} s e h = record { small = neg_small v.word (omega (arith, s.word)) h; means = go }
-  where
-    go : (i : ℤ) → HoldsInteger v i → HoldsInteger r (neg_ℤ i)
-    go (pos k) (holds_pos f g) = subst (λ (n : ℕ). HoldsInteger r (neg_ℤ (pos n))) g h
-    go (negsuc k) (holds_neg f g) = absurd (e f)
 
 -- ---- sums
 pub add_alike : {a b r : Val} → a.tag ≡ b.tag → r.tag ≡ a.tag → r.word ≡ a.word + b.word + a.tag → Computes ◌+ℤ◌ a b r
@@ -82,9 +58,6 @@ add_second {a} {b} {r} e z h = record { means = go }
         let u : a.word + 1 ≡ suc k = omega arith in
         rw (g₂, u) at h
     go (negsuc k) (negsuc l) (holds_neg f g) (holds_neg f₂ g₂) = absurd (e (f ∙ sym f₂))
-
-pub subtract_is : {a b n r : Val} → Negated b n → Computes ◌+ℤ◌ a n r → Computes ◌-ℤ◌ a b r
-subtract_is g h = record { means = λ i j p q. h.means i (neg_ℤ j) p (g.means j q) }
 
 -- ---- products and quotients
 pub product_fits : (x y : ℕ) → x ≤ 2147483649 → y ≤ 2147483649 → x * y < 18446744073709551616
@@ -148,30 +121,4 @@ divide_apart {a} {b} {r} {x} {y} ex ey e h = record { means = go }
         let u : x ≡ suc k = omega arith in
         let w : y ≡ l = omega arith in
         subst (λ (n : ℕ). HoldsInteger r (neg_ℤ (pos n))) (ap (λ (n : ℕ). n / y) u ∙ ap (λ (n : ℕ). suc k / n) w) h
-    go (negsuc k) (negsuc l) (holds_neg f g) (holds_neg f₂ g₂) = absurd (e (f ∙ sym f₂))
-
--- ---- order
-pub less_first : {a b : Val} {r : Bool} → a.tag ≡ b.tag → a.tag ≡ 0 → r ≡ ltb a.word b.word → Less a b r
-less_first {a} {b} {r} e z h = record { means = go }
-  where
-    go : (i j : ℤ) → HoldsInteger a i → HoldsInteger b j → r ≡ lt_z i j
-    go (pos k) (pos l) (holds_pos f g) (holds_pos f₂ g₂) = rw (← g, ← g₂) h
-    go (pos k) (negsuc l) (holds_pos f g) (holds_neg f₂ g₂) = absurd (omega arith)
-    go (negsuc k) j (holds_neg f g) q = absurd (omega arith)
-
-pub less_second : {a b : Val} {r : Bool} → a.tag ≡ b.tag → (a.tag ≡ 0 → ⊥) → r ≡ ltb b.word a.word → Less a b r
-less_second {a} {b} {r} e z h = record { means = go }
-  where
-    go : (i j : ℤ) → HoldsInteger a i → HoldsInteger b j → r ≡ lt_z i j
-    go (pos k) j (holds_pos f g) q = absurd (z f)
-    go (negsuc k) (pos l) (holds_neg f g) (holds_pos f₂ g₂) = absurd (omega arith)
-    go (negsuc k) (negsuc l) (holds_neg f g) (holds_neg f₂ g₂) = rw (← g, ← g₂) h
-
-pub less_apart : {a b : Val} {r : Bool} → (a.tag ≡ b.tag → ⊥) → r ≡ eqb a.tag 1 → Less a b r
-less_apart {a} {b} {r} e h = record { means = go }
-  where
-    go : (i j : ℤ) → HoldsInteger a i → HoldsInteger b j → r ≡ lt_z i j
-    go (pos k) (pos l) (holds_pos f g) (holds_pos f₂ g₂) = absurd (e (f ∙ sym f₂))
-    go (pos k) (negsuc l) (holds_pos f g) (holds_neg f₂ g₂) = h ∙ ne_eqb a.tag 1 (λ u. omega arith)
-    go (negsuc k) (pos l) (holds_neg f g) (holds_pos f₂ g₂) = h ∙ eq-eqb a.tag 1 f
     go (negsuc k) (negsuc l) (holds_neg f g) (holds_neg f₂ g₂) = absurd (e (f ∙ sym f₂))

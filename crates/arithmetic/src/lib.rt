@@ -55,7 +55,7 @@ fn magnitude(v: Val) -> u64
     requires { SmallInteger v }
     ensures { (result ≡ v.word + v.tag) × (result ≤ 2147483649) }
 {
-    v.word + v.tag as u64
+    v.word + u64::from(v.tag)
 }
 
 // The integer with the other sign.
@@ -78,7 +78,7 @@ pub fn add(a: Val, b: Val) -> Val
     if a.tag == b.tag {
         return Val {
             tag: a.tag,
-            word: x + y + a.tag as u64,
+            word: x + y + u64::from(a.tag),
         };
     }
     if a.tag == POSITIVE {

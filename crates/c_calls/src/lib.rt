@@ -6,16 +6,13 @@ ghost use Rattle.c_calls.specs.Told.{Told, RunTold};
 
 use language::Answer;
 
-// Writes the six numbers of an answer.
+// Writes the six numbers of an answer, as far as there is room for them.
 fn tell(answer: &mut [u32], r: Answer)
     ensures { Told answer.old r answer.new }
 {
-    tables::store(answer, 0, r.number);
-    tables::store(answer, 1, r.place);
-    tables::store(answer, 2, r.text);
-    tables::store(answer, 3, r.steps);
-    tables::store(answer, 4, r.cells);
-    tables::store(answer, 5, r.length);
+    let six = [r.number, r.place, r.text, r.steps, r.cells, r.length];
+    let n = answer.len().min(six.len());
+    answer[..n].copy_from_slice(&six[..n]);
 }
 
 // A run. The answer's six numbers stand in the first six places of `answer` afterwards.

@@ -1,12 +1,13 @@
 -- Laws of printing: a number with the byte behind it, and six of them as one line.
-use Prim.Native.Nat.{ℕ, ◌+◌, ◌-◌, ◌≤◌, ◌<◌}
+use Prim.Native.Nat.{ℕ, min, ◌+◌, ◌-◌, ◌≤◌, ◌<◌}
 use mathlib.Core.Path.{◌≡◌, refl, ap, sym, subst, ◌∙◌}
 use mathlib.Core.List.{List, [], ◌∷◌, ◌++◌, append_assoc, append-nil}
 use native.Mathlib.Omega.{arith}
-use borrow.Author.Tests.{eq-eqb, ne_eqb}
-use lib.ListN.{length, take, set, length-append, length-drop}
-use lib.Seq.{slice, take_all, length-take-le}
-use Rattle.language.specs.Bytes.{bytes}
+use borrow.Author.Tests.{eq-eqb, ne_eqb, leb-true, leb-false}
+use mathlib.Core.Bool.{Bool, true, false}
+use lib.Dec.{leb}
+use lib.ListN.{length, take, drop, set, length-append, length-drop}
+use lib.Seq.{take_all, length-take-le}
 use Rattle.language.specs.Writing.{decimal}
 use Rattle.language.specs.Fprun.{line, numbers}
 use Rattle.language.specs.declared.Answer.{Answer}
@@ -21,17 +22,17 @@ ten_digits : (n : ℕ) → n < 4294967296 → length (decimal n) ≤ 10
 unfolding decimal
 ten_digits n h = digits_few n n 9 (omega arith)
 
-module _ {n first : ℕ} {a : List ℕ} (small : n < 4294967296) (twenty : length a ≡ 20) (d : DigitsAt n first a) where
-  are_digits : slice first 20 a ≡ decimal n
-  are_digits = rw (take_all 20 a (omega arith)) d.is
+module _ {n m first : ℕ} {a : List ℕ} (small : n < 4294967296) (twenty : length a ≡ 20) (same : m ≡ n) (d : DigitsAt m first a) where
+  are_digits : take (20 - first) (drop first a) ≡ decimal n
+  are_digits = take_all (20 - first) (drop first a) (rw length-drop (omega arith)) ∙ d.is ∙ ap decimal same
 
   pub so_many : 20 - first ≡ length (decimal n)
-  so_many = omega (arith, length-drop first a, ap length d.is)
+  so_many = omega (arith, length-drop first a, ap length d.is, ap (λ (k : ℕ). length (decimal k)) same)
 
   pub room_behind : (at : ℕ) (out out₁ : List ℕ) → at + 11 ≤ length out → length out₁ ≡ length out → at + (20 - first) < length out₁
   room_behind at out out₁ h l = omega (arith, so_many, ten_digits n small)
 
-  pub print_one : (at b : ℕ) {out out₁ : List ℕ} → at + 11 ≤ length out → PutText out at (slice first 20 a) out₁ → length out₁ ≡ length out
+  pub print_one : (at b : ℕ) {out out₁ : List ℕ} → at + 11 ≤ length out → PutText out at (take (20 - first) (drop first a)) out₁ → length out₁ ≡ length out
       → Printed (decimal n ++ (b ∷ [])) 11 out at (at + (20 - first) + 1) (set out₁ (at + (20 - first)) b)
   print_one at b {out} {out₁} h p l =
       let t = decimal n in
@@ -73,15 +74,11 @@ print_six a {out} {o₆ = o₆} {r₆ = r₆} h p₁ p₂ p₃ p₄ p₅ p₆ =
     subst (λ (t : List ℕ). Printed t 66 out 0 r₆ o₆) (row a) (then (omega arith) (then (omega arith) (then (omega arith) (then (omega arith) (then (omega arith) p₁ p₂) p₃) p₄) p₅) p₆)
 
 -- ---- the text behind them
-pub print_line : (at n : ℕ) (text : List ℕ) {out out₁ : List ℕ} → (at + n + 1 ≤ length out) × (n ≤ length text) → PutText out at (slice 0 n text) out₁ → length out₁ ≡ length out → Printed (line (take n text)) (n + 1) out at (at + n + 1) (set out₁ (at + n) 10)
-print_line at n text {out} {out₁} h p l =
-    let t = take n text in
-    let m : length t ≡ n = length-take-le n text h.1 in
-    let g = h.0 in
-    let i : at + n ≡ at + length t = omega arith in
-    let k : length (t ++ (10 ∷ [])) ≡ length t + 1 = length-append t (10 ∷ []) in
+pub print_line : (at : ℕ) (text : List ℕ) {out out₁ : List ℕ} → at + length text + 1 ≤ length out → PutText out at text out₁ → length out₁ ≡ length out → Printed (line text) (length text + 1) out at (at + length text + 1) (set out₁ (at + length text) 10)
+print_line at text {out} {out₁} h p l =
+    let k : length (text ++ (10 ∷ [])) ≡ length text + 1 = length-append text (10 ∷ []) in
     record {
-      is = set_put out₁ (at + n) 10 (omega arith) ∙ ap (λ (x : List ℕ). put x (at + n) (10 ∷ [])) (p.is (omega arith)) ∙ ap (λ (j : ℕ). put (put out at t) j (10 ∷ [])) i ∙ put_after out at t (10 ∷ []) (omega arith);
+      is = set_put out₁ (at + length text) 10 (omega arith) ∙ ap (λ (x : List ℕ). put x (at + length text) (10 ∷ [])) (p.is (omega arith)) ∙ put_after out at text (10 ∷ []) (omega arith);
       ends = omega arith;
       few = omega arith;
     }
@@ -89,21 +86,21 @@ print_line at n text {out} {out₁} h p l =
 fewer : {t : List ℕ} {m n : ℕ} {out : List ℕ} {at r : ℕ} {out₁ : List ℕ} → m ≤ n → Printed t m out at r out₁ → Printed t n out at r out₁
 fewer h p = record { is = p.is; ends = p.ends; few = omega (arith, p.few) }
 
+-- as many bytes as there are
+same_take : (n k : ℕ) (t : List ℕ) → n ≡ min (length t) k → take n t ≡ take k t
+same_take n k t e = go (leb k (length t)) refl
+  where
+    go : (b : Bool) → leb k (length t) ≡ b → take n t ≡ take k t
+    go true f = let l = leb-true k (length t) f in ap (λ (i : ℕ). take i t) (omega arith)
+    go false f = let l = leb-false k (length t) f in take_all n t (omega arith) ∙ sym (take_all k t (omega arith))
+
 module _ (a : Answer) (text : List ℕ) {out out₁ : List ℕ} {r : ℕ} (room : (16451 ≤ length out) × (length text ≤ 16384)) (p : Printed (line (numbers a)) 66 out 0 r out₁) where
   pub show_numbers : (a.number ≡ 20 → ⊥) → Printed (shown_as a text) 16451 out 0 r out₁
   unfolding shown_as
   show_numbers e = rw (ne_eqb a.number 20 e, append-nil) (fewer (omega arith) p)
 
-  both : (n : ℕ) {q : ℕ} {out₂ : List ℕ} → n ≤ length text → take n text ≡ take a.length text → a.number ≡ 20 → Printed (line (take n text)) (n + 1) out₁ r q out₂ → Printed (shown_as a text) 16451 out 0 q out₂
+  pub show_text : {n q : ℕ} {out₂ : List ℕ} → a.number ≡ 20 → n ≡ min (length text) a.length → Printed (line (take n text)) (length (take n text) + 1) out₁ r q out₂ → Printed (shown_as a text) 16451 out 0 q out₂
   unfolding shown_as
-  both n h f e s = rw (eq-eqb a.number 20 e, ← f) (fewer (omega (arith, room.1)) (then (omega (arith, room.0, room.1)) p s))
-
-  pub show_all : {q : ℕ} {out₂ : List ℕ} → a.number ≡ 20 → length text < a.length → Printed (line (take (length text) text)) (length text + 1) out₁ r q out₂ → Printed (shown_as a text) 16451 out 0 q out₂
-  show_all e h s = both (length text) (omega arith) (take_all (length text) text (omega arith) ∙ sym (take_all a.length text (omega arith))) e s
-
-  pub show_some : {q : ℕ} {out₂ : List ℕ} → a.number ≡ 20 → a.length ≤ length text → Printed (line (take a.length text)) (a.length + 1) out₁ r q out₂ → Printed (shown_as a text) 16451 out 0 q out₂
-  show_some e h s = both a.length h refl e s
-
--- ---- another shape
-pub print_99 : {out out₁ : List ℕ} → 3 ≤ length out → PutText out 0 (slice 0 3 (57 ∷ 57 ∷ 10 ∷ [])) out₁ → Printed (line (bytes "99")) 3 out 0 3 out₁
-print_99 h p = record { is = p.is h; ends = refl; few = omega arith }
+  show_text {n} e f s =
+      let m : length (take n text) ≡ n = length-take-le n text (omega arith) in
+      rw (eq-eqb a.number 20 e, ← same_take n a.length text f) (fewer (omega (arith, room.1)) (then (omega (arith, room.0, room.1)) p s))

@@ -1,29 +1,21 @@
--- Laws of `split`: a byte passed, a byte found, the end; and the shapes of texts that are not three lines.
-use Prim.Native.Nat.{ℕ, ◌+◌, ◌≤◌, ◌<◌}
+-- Laws of `split`: at the first byte of a kind, and where there is none; and the shapes of texts that are not three lines.
+use Prim.Native.Nat.{ℕ, zero, suc, ◌+◌, ◌-◌, ◌≤◌, ◌<◌}
 use mathlib.Core.Path.{◌≡◌, refl, ap, sym, ◌∙◌}
-use mathlib.Core.Bool.{Bool, true, false}
-use mathlib.Core.List.{List, [], ◌∷◌, ◌++◌, append_assoc, append-nil}
-use mathlib.Core.Option.{Option, none}
+use mathlib.Core.Bool.{Bool, true, false, not, cond}
+use mathlib.Core.List.{List, [], ◌∷◌}
+use mathlib.Core.Option as maybe
 use native.Mathlib.Numerals.{add-one}
 use native.Mathlib.Omega.{arith}
-use borrow.Author.Tests.{eq-eqb, ne_eqb, ltb-true, ltb-false}
 use lib.Dec.{eqb, ltb}
-use lib.ListN.{length, take, get_or}
-use lib.Seq.{slice, slice_empty, take-suc, take-length, drop-append-le, length-take-le}
+use borrow.Author.Tests.{eqb-true, eqb-false, ltb-false}
+use lib.ListN.{length, take, drop, get_or, length-drop}
+use lib.Seq.{take_all}
+use Rattle.std.specs.Prelude.{Option, Some, None, position}
+use Rattle.std.specs.List.{position_or_len}
+use Rattle.std.proofs.lemmas.List.Quantifiers.{position-Some}
+use Rattle.std.proofs.lemmas.List.Sums.{prefix_len_passes}
 use Rattle.language.specs.Fprun.{put_first, split, on_lines}
-use Rattle.packing.proofs.Slices.{slice_first}
-use Rattle.lexer.proofs.Spans.{slice_none}
-use Rattle.call_lines.specs.Cutting.{Found, LinesCut, three_lines, other_shape}
-use Rattle.call_lines.specs.declared.Lines.TheVariants.{Three, Other}
-
--- p before the first piece
-abbrev prefixed : List ℕ → List (List ℕ) → List (List ℕ)
-prefixed p [] = p ∷ []
-prefixed p (w ∷ ws) = (p ++ w) ∷ ws
-
-prefixed_snoc : (p : List ℕ) (c : ℕ) (ws : List (List ℕ)) → prefixed p (put_first c ws) ≡ prefixed (p ++ (c ∷ [])) ws
-prefixed_snoc p c [] = refl
-prefixed_snoc p c (w ∷ ws) = rw (append_assoc p (c ∷ []) w)
+use Rattle.call_lines.specs.Cutting.{CutOff}
 
 split_found : (b c : ℕ) (s : List ℕ) → eqb c b ≡ true → split b (c ∷ s) ≡ [] ∷ split b s
 unfolding split
@@ -33,20 +25,36 @@ split_passed : (b c : ℕ) (s : List ℕ) → eqb c b ≡ false → split b (c �
 unfolding split
 split_passed b c s e = rw (e, split)
 
-split_none : (b : ℕ) → split b [] ≡ [] ∷ []
+-- the k-th byte is the first b
+split_at : (b : ℕ) (s : List ℕ) (k : ℕ) → k < length s → eqb (get_or s k 0) b ≡ true → ((j : ℕ) → j < k → eqb (get_or s j 0) b ≡ false) → split b s ≡ take k s ∷ split b (drop (suc k) s)
+split_at b [] k h e n = absurd (omega arith)
+split_at b (c ∷ s) zero h e n = split_found b c s e
+split_at b (c ∷ s) (suc k) h e n = split_passed b c s (n 0 (omega arith)) ∙ ap (put_first c) (split_at b s k (omega arith) e (λ j l. n (suc j) (omega arith)))
+
+-- no byte is b
+split_whole : (b : ℕ) (s : List ℕ) → ((j : ℕ) → j < length s → eqb (get_or s j 0) b ≡ false) → split b s ≡ s ∷ []
 unfolding split
-split_none b = refl
+split_whole b [] n = refl
+split_whole b (c ∷ s) n = split_passed b c s (n 0 (omega arith)) ∙ ap (put_first c) (split_whole b s (λ j l. n (suc j) (omega arith)))
 
-slice_last : (s : List ℕ) (from i : ℕ) → from ≤ i → i < length s → slice from (i + 1) s ≡ slice from i s ++ (get_or s i 0 ∷ [])
-slice_last s from i l h =
-    let m = length-take-le i s (omega arith) in
-    rw (add-one, take-suc s i 0 h) (drop-append-le from (take i s) (get_or s i 0 ∷ []) (omega arith))
+pub found : (b : ℕ) (s : List ℕ) (k n : ℕ) {r : Option ℕ} → n ≡ length s → r ≡ position (λ x. eqb x b) s → r ≡ Some k → CutOff b s (take k s) (take (n - (k + 1)) (drop (k + 1) s))
+found b s k n l e q =
+    let f = position-Some (λ x. eqb x b) s k 0 (sym e ∙ q) in
+    record { is = rw (take_all (n - (k + 1)) (drop (k + 1) s) (rw length-drop (omega arith)), add-one) (split_at b s k f.0 f.1 f.2) }
 
--- no b stands from `from` up to i
-pub record Passed (b : ℕ) (s : List ℕ) (from to i : ℕ) : Type 0 where
-  pub low : from ≤ i
-  pub high : i ≤ to
-  pub is : split b (slice from to s) ≡ prefixed (slice from i s) (split b (slice i to s))
+pub not_found : (b : ℕ) (s : List ℕ) {r : Option ℕ} → r ≡ position (λ x. eqb x b) s → r ≡ None → split b s ≡ s ∷ []
+not_found b s e q = go (ltb first (length s)) refl (sym e ∙ q)
+  where
+    first : ℕ
+    first = position_or_len (λ x. eqb x b) s
+
+    is_other : (t : Bool) → not t ≡ true → t ≡ false
+    is_other true h = sym h
+    is_other false h = refl
+
+    go : (t : Bool) → ltb first (length s) ≡ t → cond t (Some first) None ≡ None → split b s ≡ s ∷ []
+    go true f h = let z : ◌≡◌ {A = ℕ} 0 1 = cc in absurd (omega arith)
+    go false f h = let l = ltb-false first (length s) f in split_whole b s (λ j g. is_other (eqb (get_or s j 0) b) (prefix_len_passes (λ x. not (eqb x b)) s j 0 (omega arith)))
 
 -- there is a first piece
 pub pieces : (b : ℕ) (w : List ℕ) → 1 ≤ length (split b w)
@@ -62,110 +70,42 @@ pieces b (c ∷ w) = go (eqb c b)
     go true = omega arith
     go false = first (split b w)
 
-prefixed_none : (ws : List (List ℕ)) → 1 ≤ length ws → prefixed [] ws ≡ ws
-prefixed_none [] h = absurd (omega arith)
-prefixed_none (w ∷ ws) h = refl
-
-module _ {b : ℕ} {s : List ℕ} {from to : ℕ} where
-  pub find_start : (from ≤ to) × (to ≤ length s) → Passed b s from to from
-  find_start h = record { low = omega arith; high = omega arith; is = rw (slice_empty from s) (sym (prefixed_none (split b (slice from to s)) (pieces b (slice from to s)))) }
-
-  pub find_on : {i : ℕ} → (from ≤ to) × (to ≤ length s) → i < to → (get_or s i 0 ≡ b → ⊥) → Passed b s from to i → Passed b s from to (i + 1)
-  find_on {i} g h e p =
-      let fits = g.1 in
-      let l = p.low in
-      record {
-        low = omega arith;
-        high = omega arith;
-        is = p.is ∙ ap (λ (x : List ℕ). prefixed (slice from i s) (split b x)) (slice_first s i to h fits)
-            ∙ ap (prefixed (slice from i s)) (split_passed b (get_or s i 0) (slice (i + 1) to s) (ne_eqb (get_or s i 0) b e))
-            ∙ prefixed_snoc (slice from i s) (get_or s i 0) (split b (slice (i + 1) to s))
-            ∙ ap (λ (x : List ℕ). prefixed x (split b (slice (i + 1) to s))) (sym (slice_last s from i l (omega arith)));
-      }
-
-  pub find_here : {i : ℕ} → (from ≤ to) × (to ≤ length s) → i < to → get_or s i 0 ≡ b → Passed b s from to i → Found b s from to i
-  find_here {i} g h e p = record {
-    low = p.low;
-    high = p.high;
-    here = λ z. p.is ∙ ap (λ (x : List ℕ). prefixed (slice from i s) (split b x)) (slice_first s i to h g.1)
-        ∙ ap (prefixed (slice from i s)) (split_found b (get_or s i 0) (slice (i + 1) to s) (eq-eqb (get_or s i 0) b e))
-        ∙ ap (λ (x : List ℕ). x ∷ split b (slice (i + 1) to s)) (append-nil (slice from i s));
-    nowhere = λ z. absurd (omega arith);
-  }
-
-  pub find_over : {i : ℕ} → (from ≤ to) × (to ≤ length s) → to ≤ i → Passed b s from to i → Found b s from to i
-  find_over {i} g h p =
-      let l = p.high in
-      let e : i ≡ to = omega arith in
-      record {
-        low = p.low;
-        high = l;
-        here = λ z. absurd (omega arith);
-        nowhere = λ z. p.is ∙ ap (λ (x : List ℕ). prefixed (slice from i s) (split b x)) (slice_none s i to g.1 h)
-            ∙ ap (prefixed (slice from i s)) (split_none b)
-            ∙ ap (λ (x : List ℕ). x ∷ []) (append-nil (slice from i s) ∙ ap (λ (k : ℕ). slice from k s) e);
-      }
-
--- ---- lines
-whole : (s : List ℕ) (n : ℕ) → n ≡ length s → slice 0 n s ≡ s
-whole s n e = rw e (take-length s)
-
 -- behind three lines nothing, but here a byte stands
-behind : (x y z : List ℕ) (c : ℕ) (w : List ℕ) (k : List ℕ → List ℕ → List ℕ → Option (List ℕ)) → on_lines (x ∷ y ∷ z ∷ split 10 (c ∷ w)) k ≡ none
+behind : (x y z : List ℕ) (c : ℕ) (w : List ℕ) (k : List ℕ → List ℕ → List ℕ → maybe.Option (List ℕ)) → on_lines (x ∷ y ∷ z ∷ split 10 (c ∷ w)) k ≡ maybe.none
 unfolding split
 behind x y z c w k = go (eqb c 10)
   where
-    empty : (v : List ℕ) → on_lines (x ∷ y ∷ z ∷ [] ∷ split 10 v) k ≡ none
+    empty : (v : List ℕ) → on_lines (x ∷ y ∷ z ∷ [] ∷ split 10 v) k ≡ maybe.none
     empty v = more (split 10 v) (pieces 10 v)
       where
-        more : (ws : List (List ℕ)) → 1 ≤ length ws → on_lines (x ∷ y ∷ z ∷ [] ∷ ws) k ≡ none
+        more : (ws : List (List ℕ)) → 1 ≤ length ws → on_lines (x ∷ y ∷ z ∷ [] ∷ ws) k ≡ maybe.none
         more [] h = absurd (omega arith)
         more (v ∷ ws) h = refl
 
-    first : (ws : List (List ℕ)) → on_lines (x ∷ y ∷ z ∷ put_first c ws) k ≡ none
+    first : (ws : List (List ℕ)) → on_lines (x ∷ y ∷ z ∷ put_first c ws) k ≡ maybe.none
     first [] = refl
     first (v ∷ ws) = refl
 
-    go : (t : Bool) → on_lines (x ∷ y ∷ z ∷ elim t [ true ↦ [] ∷ split 10 w | false ↦ put_first c (split 10 w) ]) k ≡ none
+    go : (t : Bool) → on_lines (x ∷ y ∷ z ∷ elim t [ true ↦ [] ∷ split 10 w | false ↦ put_first c (split 10 w) ]) k ≡ maybe.none
     go true = empty w
     go false = first (split 10 w)
 
-pub cut_here : {b : ℕ} {s : List ℕ} {from to r : ℕ} → Found b s from to r → (r ≡ to → ⊥) → r < to
-cut_here {b} {s} {from} {to} {r} f n = go (ltb r to) refl
-  where
-    go : (t : Bool) → ltb r to ≡ t → r < to
-    go true e = ltb-true r to e
-    go false e = let g = ltb-false r to e in absurd (n (omega (arith, f.high)))
+-- ---- lines
+module _ {s a b c r₁ r₂ r₃ : List ℕ} {t : Bool} (one : CutOff 10 s a r₁) (two : CutOff 10 r₁ b r₂) (three : CutOff 10 r₂ c r₃) (e : t ≡ eqb (length r₃) 0) where
+  cut : split 10 s ≡ a ∷ b ∷ c ∷ split 10 r₃
+  cut = one.is ∙ ap (λ (x : List (List ℕ)). a ∷ x) (two.is ∙ ap (λ (x : List (List ℕ)). b ∷ x) three.is)
 
-module _ {s : List ℕ} {a : ℕ} (one : Found 10 s 0 (length s) a) where
-  pub no_feed : a ≡ length s → LinesCut s Other
-  no_feed e = other_shape (λ k. rw (← (whole s (length s) refl), one.nowhere (omega arith)))
+  pub more_behind : t ≡ false → (k : List ℕ → List ℕ → List ℕ → maybe.Option (List ℕ)) → on_lines (split 10 s) k ≡ maybe.none
+  more_behind h k = rw cut (go r₃ (sym e ∙ h))
+    where
+      go : (r : List ℕ) → eqb (length r) 0 ≡ false → on_lines (a ∷ b ∷ c ∷ split 10 r) k ≡ maybe.none
+      go [] f = absurd (eqb-false 0 0 f refl)
+      go (d ∷ w) f = behind a b c d w k
 
-  module _ (is_one : a ≡ length s → ⊥) where
-    first_cut : split 10 s ≡ slice 0 a s ∷ split 10 (slice (a + 1) (length s) s)
-    first_cut = ap (split 10) (sym (whole s (length s) refl)) ∙ one.here (cut_here one is_one)
-
-    module _ {b : ℕ} (two : Found 10 s (a + 1) (length s) b) where
-      pub one_feed : b ≡ length s → LinesCut s Other
-      one_feed e = other_shape (λ k. rw (first_cut, two.nowhere (omega arith)))
-
-      module _ (is-two : b ≡ length s → ⊥) where
-        second_cut : split 10 s ≡ slice 0 a s ∷ slice (a + 1) b s ∷ split 10 (slice (b + 1) (length s) s)
-        second_cut = first_cut ∙ ap (λ (x : List (List ℕ)). slice 0 a s ∷ x) (two.here (cut_here two is-two))
-
-        module _ {c : ℕ} (three : Found 10 s (b + 1) (length s) c) where
-          pub two_feeds : c ≡ length s → LinesCut s Other
-          two_feeds e = other_shape (λ k. rw (second_cut, three.nowhere (omega arith)))
-
-          module _ (is-three : c ≡ length s → ⊥) where
-            third_cut : split 10 s ≡ slice 0 a s ∷ slice (a + 1) b s ∷ slice (b + 1) c s ∷ split 10 (slice (c + 1) (length s) s)
-            third_cut = second_cut ∙ ap (λ (x : List (List ℕ)). slice 0 a s ∷ slice (a + 1) b s ∷ x) (three.here (cut_here three is-three))
-
-            pub more_behind : c + 1 < length s → LinesCut s Other
-            more_behind l = other_shape (λ k. rw (third_cut, slice_first s (c + 1) (length s) l (omega arith)) (behind (slice 0 a s) (slice (a + 1) b s) (slice (b + 1) c s) (get_or s (c + 1) 0) (slice (c + 1 + 1) (length s) s) k))
-
-            pub cut_three : length s ≤ c + 1 → LinesCut s (Three a b c)
-            cut_three l =
-                let h = cut_here three is-three in
-                three_lines two.low three.low (omega arith)
-                (third_cut ∙ ap (λ (x : List (List ℕ)). slice 0 a s ∷ slice (a + 1) b s ∷ slice (b + 1) c s ∷ x) (ap (split 10) (slice_none s (c + 1) (length s) (omega arith) l) ∙ split_none 10))
+  pub cut_three : t ≡ true → split 10 s ≡ a ∷ b ∷ c ∷ [] ∷ []
+  unfolding split
+  cut_three h = cut ∙ ap (λ (x : List (List ℕ)). a ∷ b ∷ c ∷ x) (go r₃ (sym e ∙ h))
+    where
+      go : (r : List ℕ) → eqb (length r) 0 ≡ true → split 10 r ≡ [] ∷ []
+      go [] f = refl
+      go (d ∷ w) f = let z = eqb-true (length (d ∷ w)) 0 f in absurd (omega arith)

@@ -1,43 +1,37 @@
 // Texts cut at a byte, and into three lines.
-ghost use Rattle.std.specs.Prelude.{◌≤◌, length};
-ghost use Rattle.call_lines.specs.Cutting.{Found, LinesCut};
+ghost use Rattle.std.specs.Prelude.{◌≡◌, ◌==◌, position};
+ghost use Rattle.call_lines.specs.Cutting.{Cut, LinesCut};
 
 use super::Lines;
 
-// The place of the first b from `from` up to `to`; `to` if there is none.
-pub fn find(s: &[u8], from: usize, to: usize, b: u8) -> usize
-    requires { (from ≤ to) × (to ≤ length s.now) }
-    ensures { Found b s.now from to result }
+// The place of the first b.
+fn find(s: &[u8], b: u8) -> Option<usize>
+    ensures { result ≡ position (λ x. x == b) s.now }
 {
-    let mut i = from;
-    while i < to {
-        if s[i] == b {
-            return i;
-        }
-        i += 1;
-    }
-    i
+    s.iter().position(|x| *x == b)
 }
 
-// Where the line feeds of three lines stand.
-pub fn cut_lines(s: &[u8]) -> Lines
+// What stands before the first b, and what behind it.
+pub fn cut<'a>(s: &'a [u8], b: u8) -> Option<(&'a [u8], &'a [u8])>
+    ensures { Cut b s.now result }
+{
+    let at = find(s, b)?;
+    Some((&s[..at], &s[at + 1..]))
+}
+
+// Three lines, each ended by a line feed, and nothing else.
+pub fn cut_lines<'a>(s: &'a [u8]) -> Option<Lines<'a>>
     ensures { LinesCut s.now result }
 {
-    let n = s.len();
-    let first = find(s, 0, n, b'\n');
-    if first == n {
-        return Lines::Other;
+    let (budgets, others) = cut(s, b'\n')?;
+    let (program, last) = cut(others, b'\n')?;
+    let (object, behind) = cut(last, b'\n')?;
+    if !behind.is_empty() {
+        return None;
     }
-    let second = find(s, first + 1, n, b'\n');
-    if second == n {
-        return Lines::Other;
-    }
-    let third = find(s, second + 1, n, b'\n');
-    if third == n {
-        return Lines::Other;
-    }
-    if third + 1 < n {
-        return Lines::Other;
-    }
-    Lines::Three(first, second, third)
+    Some(Lines {
+        budgets,
+        program,
+        object,
+    })
 }

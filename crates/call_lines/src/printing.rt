@@ -1,5 +1,5 @@
 // What is printed after a run: the line of six numbers, the line of the text; or 99.
-ghost use Rattle.std.specs.Prelude.{◌+◌, ◌≤◌, length, take, [], ◌∷◌, ◌++◌};
+ghost use Rattle.std.specs.Prelude.{◌+◌, ◌≤◌, length, [], ◌∷◌, ◌++◌};
 ghost use Rattle.language.specs.Numbers.{written_limit};
 ghost use Rattle.language.specs.Bytes.{bytes};
 ghost use Rattle.language.specs.Writing.{decimal};
@@ -14,9 +14,9 @@ fn print_number(out: &mut [u8], at: usize, n: u32, b: u8) -> usize
     ensures { Printed (decimal n ++ (b ∷ [])) 11 out.old at result out.new }
 {
     let mut a = [0u8; 20];
-    let first = objects::digits(n as u64, &mut a);
+    let first = objects::digits(u64::from(n), &mut a);
     let end = at + (20 - first);
-    objects::put_text(out, at, &a, first, 20);
+    objects::put_text(out, at, &a[first..]);
     out[end] = b;
     end + 1
 }
@@ -34,13 +34,13 @@ pub fn print_numbers(out: &mut [u8], a: Answer) -> usize
     print_number(out, cells, a.length, b'\n')
 }
 
-// Writes the first n bytes of the text and a line feed from the place `at` on, and gives the place behind them.
-fn print_text(out: &mut [u8], at: usize, text: &[u8], n: usize) -> usize
-    requires { (at + n + 1 ≤ length out.old) × (n ≤ length text.now) }
-    ensures { Printed (line (take n text.now)) (n + 1) out.old at result out.new }
+// Writes the text and a line feed from the place `at` on, and gives the place behind them.
+fn print_text(out: &mut [u8], at: usize, text: &[u8]) -> usize
+    requires { at + length text.now + 1 ≤ length out.old }
+    ensures { Printed (line text.now) (length text.now + 1) out.old at result out.new }
 {
-    let end = at + n;
-    objects::put_text(out, at, text, 0, n);
+    let end = at + text.len();
+    objects::put_text(out, at, text);
     out[end] = b'\n';
     end + 1
 }
@@ -54,11 +54,8 @@ pub fn print_answer(out: &mut [u8], a: Answer, text: &[u8]) -> usize
     if a.number != language::DONE {
         return at;
     }
-    let n = a.length as usize;
-    if text.len() < n {
-        return print_text(out, at, text, text.len());
-    }
-    print_text(out, at, text, n)
+    let n = text.len().min(a.length as usize);
+    print_text(out, at, &text[..n])
 }
 
 // Writes what is shown of input of another shape.
@@ -66,6 +63,6 @@ pub fn print_other(out: &mut [u8]) -> usize
     requires { 3 ≤ length out.old }
     ensures { Printed (line (bytes "99")) 3 out.old 0 result out.new }
 {
-    objects::put_text(out, 0, b"99\n", 0, 3);
+    objects::put_text(out, 0, b"99\n");
     3
 }

@@ -59,14 +59,6 @@ truth_F h w (rep_symbol {w = s} t i e) = let z : s ≡ bytes "F" = symbols_same 
 truth_F h w (rep_nil t e) = absurd (omega arith)
 truth_F h w (rep_more t e l a b) = absurd (omega arith)
 
--- neither, where the tag is another
-pub truth_other : {C : List ℕ} {n : ℕ} {v : Val} {x : Obj} → (v.tag ≡ 2 → ⊥) → Rep C n v x → truth_of x ≡ neither
-truth_other h (rep_pos t e b) = refl
-truth_other h (rep_neg t e b) = refl
-truth_other h (rep_symbol t i e) = absurd (h t)
-truth_other h (rep_nil t e) = refl
-truth_other h (rep_more t e l a b) = refl
-
 -- neither, where the word is another
 pub truth_neither : {C : List ℕ} {n : ℕ} {v : Val} {x : Obj} → (v.word ≡ 20 → ⊥) → (v.word ≡ 6 → ⊥) → Rep C n v x → truth_of x ≡ neither
 truth_neither h k (rep_pos t e b) = refl

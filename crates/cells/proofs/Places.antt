@@ -8,19 +8,11 @@ use lib.ListN.{length}
 use Rattle.language.specs.Objects.{Obj, seq, Objs, nil, ◌::◌, length_of, nth_obj}
 use Rattle.language.specs.Meanings.{gives, nth}
 use Rattle.language.specs.declared.Val.{Val}
-use Rattle.tables.specs.Tables.{field}
 use Rattle.cells.specs.Cells.{Rep, rep_nil, rep_more, val_at, next_at, sequence_val, Same, cell_put}
-use Rattle.cells.specs.Parts.{size_of, first_of, Sized, Headed, Tailed, drop_objs, Nth, Paired, held_at, onto, Held, no_held, a_held, Gathered}
+use Rattle.cells.specs.Parts.{first_of, Headed, drop_objs, Nth, Paired, held_at, onto, Held, no_held, a_held, Gathered}
 use Rattle.cells.proofs.Reps.{same_refl, same_trans, rep_ext, length_cell, cell_same, rep_new}
 
--- ---- size, first place, rest
-pub size_is : {v : Val} {r : ℕ} → r ≡ size_of v → Sized v r
-size_is {v} {r} e = record { is = e; means = λ C n xs u h. go C n xs u h }
-  where
-    go : (C : List ℕ) (n : ℕ) (xs : Objs) → n < 4294967296 → Rep C n v (seq xs) → r ≡ length_of xs
-    go C n nil u (rep_nil t w) = omega arith
-    go C n (x :: xs) u (rep_more {p = p} t w l a b) = omega arith
-
+-- ---- the first place
 pub head_is : {C : List ℕ} {v r : Val} {p : ℕ} → p ≡ first_of v → r ≡ val_at C p → Headed C v r
 head_is {C} {v} {r} {p} e f = record { is = rw (f, e); means = λ n x xs u h. go n x xs u h }
   where
@@ -28,21 +20,6 @@ head_is {C} {v} {r} {p} e f = record { is = rw (f, e); means = λ n x xs u h. go
     go n x xs u (rep_more {p = q} t w l a b) =
         let i : p ≡ q = omega arith in
         rw (f, i) a
-
-tail_of : {C : List ℕ} {v r : Val} (k p : ℕ) → p ≡ first_of v → k ≡ size_of v - 1 → r ≡ sequence_val (next_at C p) k → Tailed C v r
-tail_of {C} {v} {r} k p e z f = record { is = rw (f, e, z); means = λ n x xs u h. go n x xs u h }
-  where
-    go : (n : ℕ) (x : Obj) (xs : Objs) → n < 4294967296 → Rep C n v (seq (x :: xs)) → Rep C n r (seq xs)
-    go n x xs u (rep_more {p = q} t w l a b) =
-        let i : p ≡ q = omega arith in
-        let j : k ≡ length_of xs = omega arith in
-        rw (f, i, j) b
-
-pub tail_none : {C : List ℕ} {v r : Val} {p link n : ℕ} → p ≡ first_of v → link ≡ field C p 1 → Sized v n → n ≡ 0 → r ≡ sequence_val link 0 → Tailed C v r
-tail_none {p = p} e f s z g = tail_of 0 p e (omega (arith, s.is)) (rw (← f) g)
-
-pub tail_is : {C : List ℕ} {v r : Val} {p link n : ℕ} → p ≡ first_of v → link ≡ field C p 1 → Sized v n → r ≡ sequence_val link (n - 1) → Tailed C v r
-tail_is {p = p} {n = n} e f s g = tail_of (n - 1) p e (rw s.is) (rw (← f) g)
 
 -- ---- the place k
 pub drop_first : (xs : Objs) (k : ℕ) → k < length_of xs → drop_objs xs k ≡ nth_obj xs k :: drop_objs xs (suc k)
@@ -99,11 +76,8 @@ walk_end {v = v} {k = k} {q = q} e h w t =
     record { means = λ n xs u l r. rw (← z, t) (from_head u (rw (drop_first xs q (omega arith)) at (w.means n xs u l (record { val = v; first = e; rep = r })))) }
 
 -- ---- a pair
-pub pair_far : {C C' : List ℕ} {p : ℕ} {a b r : Val} → 4294967293 < p → Paired C p a b r C'
-pair_far h = record { means = λ x y l e ra rb. absurd (omega arith) }
-
-pub pair_is : {C C₁ C₂ : List ℕ} {p : ℕ} {a b r : Val} → C₁ ≡ cell_put C p b 0 → C₂ ≡ cell_put C₁ (p + 1) a (p + 1) → r ≡ sequence_val (p + 2) 2 → Paired C p a b r C₂
-pair_is {C} {C₁} {C₂} {p} {a} {b} {r} e f g = record { means = λ x y l h ra rb. go x y h ra rb }
+pub pair_is : {C C₁ C₂ : List ℕ} {p q : ℕ} {a b r : Val} → q ≡ p + 2 → C₁ ≡ cell_put C p b 0 → C₂ ≡ cell_put C₁ (p + 1) a (p + 1) → r ≡ sequence_val q 2 → Paired C p a b r C₂
+pair_is {C} {C₁} {C₂} {p} {q} {a} {b} {r} k e f g = record { means = λ x y l h ra rb. go x y h ra rb }
   where
     go : (x y : Obj) → p * 4 + 8 ≤ length C → Rep C p a x → Rep C p b y → Rep C₂ (p + 2) r (seq (x :: y :: nil)) × Same C C₂ p
     go x y h ra rb =
@@ -113,7 +87,7 @@ pair_is {C} {C₁} {C₂} {p} {a} {b} {r} e f g = record { means = λ x y l h ra
         let s₂ : Same C₁ C₂ (p + 1) = rw f (cell_same C₁ (p + 1) a (p + 1)) in
         let r₂ : Rep C₂ (p + 1 + 1) (sequence_val (p + 1 + 1) 2) (seq (x :: y :: nil)) = rw f (rep_new (p + 1) (y :: nil) (omega arith) (rep_ext s₁ (omega arith) ra) r₁) in
         let z : p + 1 + 1 ≡ p + 2 = omega arith in
-        (rw g (rw z at r₂), same_trans (omega arith) s₁ s₂)
+        (rw (g, k) (rw z at r₂), same_trans (omega arith) s₁ s₂)
 
 -- ---- what waits is gathered: `rest` still waits, `done` stands in the new cells
 pub record Left (C₀ W : List ℕ) (top n p : ℕ) (xs : List Obj) (C : List ℕ) (left link free : ℕ) : Type 0 where
@@ -131,9 +105,6 @@ pub record Gathering (C₀ W : List ℕ) (top n p : ℕ) (C : List ℕ) (left li
   pub fits : p + n < 4294967296
   pub len : length C ≡ length C₀
   pub means : (xs : List Obj) → length xs ≡ n → Held W C₀ p top xs → p * 4 + n * 4 ≤ length C₀ → Left C₀ W top n p xs C left link free
-
-pub gather_far : {C W C' : List ℕ} {top n p : ℕ} {r : Val} → 4294967295 - p < n → Gathered C W top n p r C'
-gather_far h = record { means = λ xs e w l m. absurd (omega arith) }
 
 pub gather_start : {C W : List ℕ} {top n p : ℕ} → n ≤ 4294967295 - p → p < 4294967296 → Gathering C W top n p C n 0 p
 gather_start {C} {W} {top} {n} {p} h u = record {

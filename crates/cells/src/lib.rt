@@ -15,11 +15,9 @@ pub fn value_at(c: &[u32], p: u32) -> Val
     ensures { result ≡ val_at c.now p }
 {
     let i = p as usize * 4;
-    let lo = tables::at(c, i + 2) as u64;
-    let hi = tables::at(c, i + 3) as u64;
     Val {
         tag: tables::at(c, i),
-        word: lo + 4294967296 * hi,
+        word: tables::word(tables::at(c, i + 2), tables::at(c, i + 3)),
     }
 }
 
@@ -27,9 +25,14 @@ pub fn value_at(c: &[u32], p: u32) -> Val
 pub fn put_cell(c: &mut [u32], p: u32, v: Val, next: u32)
     ensures { c.new ≡ cell_put c.old p v next }
 {
-    let lo = (v.word % 4294967296) as u32;
-    let hi = (v.word / 4294967296) as u32;
-    tables::put_record(c, p as usize, v.tag, next, lo, hi);
+    tables::put_record(
+        c,
+        p as usize,
+        v.tag,
+        next,
+        tables::low(v.word),
+        tables::high(v.word),
+    );
 }
 
 // Whether the value is a sequence.
@@ -43,15 +46,14 @@ pub fn is_sequence(v: Val) -> bool
 pub fn size(v: Val) -> u32
     ensures { Sized v result }
 {
-    (v.word / 4294967296) as u32
+    tables::high(v.word)
 }
 
 // The number of a sequence's first cell; 0 where there is none.
 pub fn first_cell(v: Val) -> u32
     ensures { result ≡ first_of v }
 {
-    let link = (v.word % 4294967296) as u32;
-    if link == 0 { 0 } else { link - 1 }
+    tables::low(v.word).saturating_sub(1)
 }
 
 // The value in a sequence's first place.
@@ -67,7 +69,7 @@ pub fn sequence(link: u32, n: u32) -> Val
 {
     Val {
         tag: SEQUENCE,
-        word: link as u64 + 4294967296 * n as u64,
+        word: tables::word(link, n),
     }
 }
 
@@ -76,19 +78,14 @@ pub fn tail(c: &[u32], v: Val) -> Val
     ensures { Tailed c.now v result }
 {
     let link = tables::at(c, first_cell(v) as usize * 4 + 1);
-    let n = size(v);
-    if n == 0 {
-        return sequence(link, 0);
-    }
-    sequence(link, n - 1)
+    sequence(link, size(v).saturating_sub(1))
 }
 
 // The number of the cell that cell p leads to; 0 where it leads to none.
 pub fn next_cell(c: &[u32], p: u32) -> u32
     ensures { result ≡ next_at c.now p - 1 }
 {
-    let link = tables::at(c, p as usize * 4 + 1);
-    if link == 0 { 0 } else { link - 1 }
+    tables::at(c, p as usize * 4 + 1).saturating_sub(1)
 }
 
 // The value in a sequence's place k, counted from 0.
@@ -96,10 +93,8 @@ pub fn nth(c: &[u32], v: Val, k: u32) -> Val
     ensures { Nth c.now v k result }
 {
     let mut p = first_cell(v);
-    let mut q: u32 = 0;
-    while q < k {
+    for _ in 0..k {
         p = next_cell(c, p);
-        q += 1;
     }
     value_at(c, p)
 }
@@ -108,24 +103,19 @@ pub fn nth(c: &[u32], v: Val, k: u32) -> Val
 pub fn free_cell(c: &[u32], m: Meter) -> u32
     ensures { result ≡ free c.now m % 4294967296 }
 {
-    let all = c.len() / 4;
-    let left = m.cells as usize;
-    if all <= left {
-        return 0;
-    }
-    ((all - left) % 4294967296) as u32
+    ((c.len() / 4).saturating_sub(m.cells as usize) & 0xffff_ffff) as u32
 }
 
 // The pair of a and b in the cells p and p + 1.
 pub fn pair(c: &mut [u32], p: u32, a: Val, b: Val) -> Val
     ensures { Paired c.old p a b result c.new }
 {
-    if 4294967293 < p {
+    let Some(end) = p.checked_add(2) else {
         return sequence(0, 0);
-    }
+    };
     put_cell(c, p, b, 0);
     put_cell(c, p + 1, a, p + 1);
-    sequence(p + 2, 2)
+    sequence(end, 2)
 }
 
 // The waiting value in place i of the ring.
@@ -146,14 +136,12 @@ pub fn hold(w: &mut [u32], i: usize, v: Val)
 pub fn gather(c: &mut [u32], w: &[u32], top: u32, n: u32, p: u32) -> Val
     ensures { Gathered c.old w.now top n p result c.new }
 {
-    if 4294967295 - p < n {
+    if p.checked_add(n).is_none() {
         return sequence(0, 0);
     }
-    let mut left = n;
     let mut link: u32 = 0;
     let mut free = p;
-    while 0 < left {
-        left -= 1;
+    for left in (0..n).rev() {
         let v = held(w, top as usize + left as usize);
         put_cell(c, free, v, link);
         free += 1;

@@ -3,62 +3,58 @@
 
 ghost use Rattle.equality.specs.Looking.{Looks, LooksAlong};
 
-use language::{Charge, Meter, Val};
+use language::{Meter, SEQUENCE, Stopped, Val};
 
-// No difference came, one came, or the steps were spent before.
-#[derive(Clone, Copy)]
-pub enum Compared {
-    Equal(Meter),
-    Differ(Meter),
-    Out(Meter),
+// Whether no difference came, and what is left of the budgets.
+#[derive(Clone, Copy, Debug, PartialEq, Eq)]
+pub struct Compared {
+    pub meter: Meter,
+    pub same: bool,
 }
 
-// Looks at the objects of a and b. Sequences are looked at place by place, wherever they lie: cells that both share are
-// looked at, and counted, as any others.
+// Looks at the objects of a and b, if a step is left for each pair. Sequences are looked at place by place, wherever they lie:
+// cells that both share are looked at, and counted, as any others.
 #[cycle(comparison)]
-pub fn same(c: &[u32], a: Val, b: Val, m: Meter) -> Compared
+pub fn same(c: &[u32], a: Val, b: Val, m: Meter) -> Result<Compared, Stopped>
     ensures { Looks c.now a b m result }
 {
-    let k = match m.charge_step() {
-        Charge::Spent(k) => return Compared::Out(k),
-        Charge::Granted(k) => k,
-    };
+    let meter = m.charge_step()?;
     if a.tag != b.tag {
-        return Compared::Differ(k);
+        return Ok(Compared { same: false, meter });
     }
-    if a.tag == language::SEQUENCE {
-        return places(c, a, b, k);
+    if a.tag == SEQUENCE {
+        return places(c, a, b, meter);
     }
-    if a.word != b.word {
-        return Compared::Differ(k);
-    }
-    Compared::Equal(k)
+    Ok(Compared {
+        same: a.word == b.word,
+        meter,
+    })
 }
 
 // Looks at the places of two sequences, until a difference or until either ends.
 #[cycle(comparison)]
-fn places(c: &[u32], a: Val, b: Val, m: Meter) -> Compared
+fn places(c: &[u32], a: Val, b: Val, m: Meter) -> Result<Compared, Stopped>
     ensures { LooksAlong c.now a b m result }
 {
     let mut p = a;
     let mut q = b;
-    let mut k = m;
+    let mut meter = m;
     while cells::size(p) != 0 {
         if cells::size(q) == 0 {
-            return Compared::Differ(k);
+            return Ok(Compared { same: false, meter });
         }
         let x = cells::head(c, p);
         let y = cells::head(c, q);
-        match same(c, x, y, k) {
-            Compared::Equal(n) => k = n,
-            Compared::Differ(n) => return Compared::Differ(n),
-            Compared::Out(n) => return Compared::Out(n),
+        let seen = same(c, x, y, meter)?;
+        if !seen.same {
+            return Ok(seen);
         }
+        meter = seen.meter;
         p = cells::tail(c, p);
         q = cells::tail(c, q);
     }
-    if cells::size(q) != 0 {
-        return Compared::Differ(k);
-    }
-    Compared::Equal(k)
+    Ok(Compared {
+        same: cells::size(q) == 0,
+        meter,
+    })
 }

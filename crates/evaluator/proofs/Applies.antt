@@ -1,4 +1,6 @@
 -- An application by its kind, and a whole run, in the tables against the definition.
+use Rattle.std.specs.Prelude.{Ok, Err}
+use Rattle.language.specs.declared.stops.Stopped.{Stopped}
 use Prim.Native.Nat.{ℕ, zero, suc, ◌+◌, ◌≤◌, ◌<◌, ◌%◌}
 use native.Mathlib.Omega.{arith}
 use mathlib.Core.Path.{◌≡◌, refl, sym, ap, subst, ◌∙◌}
@@ -8,11 +10,7 @@ use Rattle.language.specs.Objects.{Obj}
 use Rattle.language.specs.Forms.{select, select_right, Form}
 use Rattle.language.specs.Numbers.{one}
 use Rattle.language.specs.declared.Meter.{Meter}
-use Rattle.language.specs.declared.Charge.{Charge}
-use Rattle.language.specs.declared.Charge.TheVariants.{Granted, Spent}
 use Rattle.language.specs.declared.Val.{Val}
-use Rattle.primitives.specs.declared.Ended.{Ended}
-use Rattle.primitives.specs.declared.Ended.TheVariants.{Done, Stop}
 use Rattle.evaluator.specs.Ring.{fell, ran_out, Ends, ends_done, ends_stop}
 use Rattle.language.specs.Bytes.{bytes}
 use Rattle.language.specs.Forms.{main_form}
@@ -24,7 +22,7 @@ use Rattle.language.proofs.Charging.{Left, step_asked, step_granted, step_spent,
 use Rattle.tables.specs.Tables.{field}
 use Rattle.cells.specs.Cells.{Rep, free}
 use Rattle.cells.proofs.Reps.{same_refl, rep_ext}
-use Rattle.primitives.specs.Ends.{Gives, gives_value, gives_bottom, gives_spent, Leaf, Sinks}
+use Rattle.primitives.specs.Ends.{Ended, reached, Gives, gives_value, gives_bottom, gives_spent, Leaf, Sinks}
 use Rattle.linker.specs.Linked.{FormIs, is_op, is_select, is_select_right, is_name, is_chain, is_construct, is_insert, is_all, is_condition, is_while, is_constant, is_bu, form_at, linked_kind_at, constant_at}
 use Rattle.evaluator.specs.Applying.{Setting, by, At, Given, Alone, a_word, a_select, a_select_right, a_constant, no_kind, Applied, Falls, Chained, Constructed, Mapped, Inserted, Bound, Chosen, Repeated, NameApplied, FormsCopied, Ran}
 use Rattle.primitives.specs.Leaves.{Coded}
@@ -58,15 +56,15 @@ pub data Dispatched (F C W : List ℕ) (top i : ℕ) (v : Val) (m : Meter) : ℕ
 
 -- a word ends without the ring
 leaf_ends : {C C₁ : List ℕ} (W : List ℕ) (top : ℕ) {m : Meter} {e : Out Obj} (r : Ended) → length W ≡ 16384 → Gives C m C₁ e r → Ends C W top m e C₁ W r
-leaf_ends W top {m} (Done v k) w (gives_value {x = x} g) = ends_done {v = v} {m' = k} (record { obj = x; is = refl; made = g; ring = w; kept = kept_refl W top m.cells k.cells })
-leaf_ends W top (Stop n k) w (gives_bottom z a) = ends_stop (fell refl z a)
-leaf_ends W top (Stop n k) w (gives_spent z a) = ends_stop (ran_out refl z a)
+leaf_ends W top {m} (Ok r) w (gives_value {x = x} g) = ends_done (record { obj = x; is = refl; made = g; ring = w; kept = kept_refl W top m.cells r.meter.cells })
+leaf_ends W top (Err s) w (gives_bottom z a) = ends_stop (fell refl z a)
+leaf_ends W top (Err s) w (gives_spent z a) = ends_stop (ran_out refl z a)
 
 leaf : {F C W C₁ : List ℕ} {S : Setting} {k : ℕ} (top : ℕ) {v : Val} {m : Meter} {x : Obj} (r : Ended) {w : _} → Leaf C v m w r C₁ → Given F S k C W m v x → Ends C W top m (charged (meaning one w x) m) C₁ W r
 leaf {W = W} top {x = x} r l g = leaf_ends W top r g.ring (l.means x g.room g.arg)
 
-constant_here : {F C W : List ℕ} {S : Setting} {k : ℕ} (top : ℕ) {v u : Val} {m : Meter} {x y : Obj} → Given F S k C W m v x → Rep S.cells S.few u y → Ends C W top m (value y m) C W (Done u m)
-constant_here {C = C} {W} top {u = u} {m} {y = y} g p = ends_done {v = u} {m' = m} (record {
+constant_here : {F C W : List ℕ} {S : Setting} {k : ℕ} (top : ℕ) {v u : Val} {m : Meter} {x y : Obj} → Given F S k C W m v x → Rep S.cells S.few u y → Ends C W top m (value y m) C W (reached u m)
+constant_here {C = C} {W} top {u = u} {m} {y = y} g p = ends_done {r = record { value = u; meter = m }} (record {
   obj = y;
   is = refl;
   made = record { rep = rep_ext g.still g.low p; same = same_refl C (free C m); room = g.room; fewer = omega arith; long = refl };
@@ -133,30 +131,30 @@ dispatch_sinks r (on_while q c) = c.sinks
 dispatch_sinks r (on_bu q z c) = c.sinks
 
 falls_after : (r : Ended) (m m₁ : Meter) → Sinks r m₁ → Left m m₁ 1 0 0 → Falls r m
-falls_after (Done v k) m m₁ s c = (omega (arith, s.0, c.steps), omega (arith, s.1, c.names))
-falls_after (Stop v k) m m₁ s e = tt
+falls_after (Ok q) m m₁ s c = (omega (arith, s.0, c.steps), omega (arith, s.1, c.names))
+falls_after (Err q) m m₁ s e = tt
 
-apply_means : {F C W C₁ W₁ : List ℕ} {κ top i : ℕ} {v : Val} {m m₁ : Meter} {f : Form} {x : Obj} {r : Ended} (S : Setting) (k : ℕ) → linked_kind_at F i ≡ κ → step_charge m ≡ Granted m₁ → Left m m₁ 1 0 0 → Dispatched F C W top i v m₁ κ r C₁ W₁ → At F S i f → Given F S k C W m v x → Ends C W top m (by S k f x m) C₁ W₁ r
+apply_means : {F C W C₁ W₁ : List ℕ} {κ top i : ℕ} {v : Val} {m m₁ : Meter} {f : Form} {x : Obj} {r : Ended} (S : Setting) (k : ℕ) → linked_kind_at F i ≡ κ → step_charge m ≡ Ok m₁ → Left m m₁ 1 0 0 → Dispatched F C W top i v m₁ κ r C₁ W₁ → At F S i f → Given F S k C W m v x → Ends C W top m (by S k f x m) C₁ W₁ r
 apply_means S zero q e c d at g = absurd (omega (arith, c.steps, g.fuel))
 apply_means {F} {C} {W} {top = top} {i} {m = m} {f = f} {x} S (suc k) q e c d (form_at l q₁ fi) g =
     ends_eq (step_asked m (λ m₁. inside (by S k) k one S.prog f x m₁) ∙ ap (λ u. on_charge u no_step (λ m₁. inside (by S k) k one S.prog f x m₁)) e)
     (ends_since (since_step C W top c) (dispatch S k l (subst (λ (n : ℕ). FormIs F S.cells S.few S.root n i f) (sym q₁ ∙ q) fi) d (given_charged 1 0 k c (omega arith) g)))
 
-pub applied : {F C W C₁ W₁ : List ℕ} {κ κ₁ top i : ℕ} {v : Val} {m m₁ : Meter} {ch : Charge} {r : Ended} → ch ≡ step_charge m → ch ≡ Granted m₁ → κ₁ ≡ linked_kind_at F i → κ₁ ≡ κ → Dispatched F C W top i v m₁ κ r C₁ W₁ → Applied F C W top i v m r C₁ W₁
-applied {m = m} {m₁} {r = r} a b q z d =
-    let e = sym a ∙ b in
+pub applied : {F C W C₁ W₁ : List ℕ} {κ κ₁ top i : ℕ} {v : Val} {m m₁ : Meter} {r : Ended} → Ok m₁ ≡ step_charge m → κ₁ ≡ linked_kind_at F i → κ₁ ≡ κ → Dispatched F C W top i v m₁ κ r C₁ W₁ → Applied F C W top i v m r C₁ W₁
+applied {m = m} {m₁} {r = r} a q z d =
+    let e = sym a in
     let c = step_granted m e in
     record { falls = falls_after r m m₁ (dispatch_sinks r d) c; means = λ S k f x at g. apply_means S k (sym q ∙ z) e c d at g }
 
-spent_means : (S : Setting) (f : Form) (x : Obj) (m : Meter) {m₁ : Meter} (k : ℕ) → step_charge m ≡ Spent m₁ → by S k f x m ≡ spent no_step m₁
-spent_means S f x m zero e = ap (spent no_step) (step_spent m e).1
+spent_means : (S : Setting) (f : Form) (x : Obj) (m : Meter) {s : Stopped} (k : ℕ) → step_charge m ≡ Err s → by S k f x m ≡ spent no_step s.meter
+spent_means S f x m zero e = ap (λ u. spent no_step u.meter) (step_spent m e).1
 spent_means S f x m (suc k) e = step_asked m (λ m₁. inside (by S k) k one S.prog f x m₁) ∙ ap (λ u. on_charge u no_step (λ m₁. inside (by S k) k one S.prog f x m₁)) e
 
-pub apply_spent : {F C W : List ℕ} {top i : ℕ} {v : Val} {m m₁ : Meter} {ch : Charge} → ch ≡ step_charge m → ch ≡ Spent m₁ → Applied F C W top i v m (Stop 22 m₁) C W
-apply_spent {m = m} {m₁} a b = record { falls = tt; means = λ S k f x at g. ends_stop (ran_out (spent_means S f x m k (sym a ∙ b)) refl (agree_self m₁)) }
+pub apply_spent : {F C W : List ℕ} {top i : ℕ} {v : Val} {m : Meter} {s : Stopped} → Err s ≡ step_charge m → Applied F C W top i v m (Err s) C W
+apply_spent {m = m} {s} a = record { falls = tt; means = λ S k f x at g. ends_stop (ran_out (spent_means S f x m k (sym a)) (sym (ap (λ u. u.why) (step_spent m (sym a)).1)) (agree_self s.meter)) }
 
-pub apply_leaf : {F C W C₁ : List ℕ} {κ top i : ℕ} {v : Val} {m m₁ : Meter} {ch : Charge} {r : Ended} → ch ≡ step_charge m → ch ≡ Granted m₁ → κ ≡ linked_kind_at F i → (κ ≡ 4 → ⊥) → (κ ≡ 5 → ⊥) → (κ ≡ 6 → ⊥) → (κ ≡ 7 → ⊥) → (κ ≡ 8 → ⊥) → (κ ≡ 9 → ⊥) → (κ ≡ 10 → ⊥) → (κ ≡ 16 → ⊥) → Alone F C i v m₁ κ r C₁ → Applied F C W top i v m r C₁ W
-apply_leaf a b q n4 n5 n6 n7 n8 n9 n10 n16 l = applied a b q refl (on_leaf (record { not4 = n4; not5 = n5; not6 = n6; not7 = n7; not8 = n8; not9 = n9; not10 = n10; not16 = n16 }) l)
+pub apply_leaf : {F C W C₁ : List ℕ} {κ top i : ℕ} {v : Val} {m m₁ : Meter} {r : Ended} → Ok m₁ ≡ step_charge m → κ ≡ linked_kind_at F i → (κ ≡ 4 → ⊥) → (κ ≡ 5 → ⊥) → (κ ≡ 6 → ⊥) → (κ ≡ 7 → ⊥) → (κ ≡ 8 → ⊥) → (κ ≡ 9 → ⊥) → (κ ≡ 10 → ⊥) → (κ ≡ 16 → ⊥) → Alone F C i v m₁ κ r C₁ → Applied F C W top i v m r C₁ W
+apply_leaf a q n4 n5 n6 n7 n8 n9 n10 n16 l = applied a q refl (on_leaf (record { not4 = n4; not5 = n5; not6 = n6; not7 = n7; not8 = n8; not9 = n9; not10 = n10; not16 = n16 }) l)
 
 -- ---- forms with no parts, by their kinds
 pub alone_word : {F C C₁ : List ℕ} {i κ code : ℕ} {v : Val} {m : Meter} {r : Ended} → κ ≡ 1 → code ≡ field F i 2 → Coded C v m code r C₁ → Alone F C i v m κ r C₁
@@ -168,8 +166,8 @@ alone_select {F} {C} {i} {v = v} {m} {r} e q l = subst (λ (n : ℕ). Alone F C 
 pub alone_select_right : {F C : List ℕ} {i κ n : ℕ} {v : Val} {m : Meter} {r : Ended} → κ ≡ 3 → n ≡ field F i 2 → Leaf C v m (select_right n) r C → Alone F C i v m κ r C
 alone_select_right {F} {C} {i} {v = v} {m} {r} e q l = subst (λ (n : ℕ). Alone F C i v m n r C) (sym e) (a_select_right (subst (λ (n : ℕ). Leaf C v m (select_right n) r C) q l))
 
-pub alone_constant : {F C : List ℕ} {i κ : ℕ} {v u : Val} {m : Meter} → κ ≡ 12 → u ≡ constant_at F i → Alone F C i v m κ (Done u m) C
-alone_constant {F} {C} {i} {v = v} {u} {m} e q = subst (λ (n : ℕ). Alone F C i v m n (Done u m) C) (sym e) (subst (λ (x : Val). Alone F C i v m 12 (Done x m) C) (sym q) a_constant)
+pub alone_constant : {F C : List ℕ} {i κ : ℕ} {v u : Val} {m : Meter} → κ ≡ 12 → u ≡ constant_at F i → Alone F C i v m κ (reached u m) C
+alone_constant {F} {C} {i} {v = v} {u} {m} e q = subst (λ (n : ℕ). Alone F C i v m n (reached u m) C) (sym e) (subst (λ (x : Val). Alone F C i v m 12 (reached x m) C) (sym q) a_constant)
 
 -- ---- a whole run
 main_name : IsName (bytes "main")
@@ -180,20 +178,20 @@ ends_gives (ends_done f) = gives_eq f.is (gives_value f.made)
 ends_gives (ends_stop (fell e z a)) = gives_eq e (gives_bottom z a)
 ends_gives (ends_stop (ran_out e z a)) = gives_eq e (gives_spent z a)
 
-pub ran_spent : {F C : List ℕ} {d : ℕ} {v : Val} {m m₁ : Meter} {ch : Charge} → ch ≡ step_charge m → ch ≡ Spent m₁ → Ran F C d v m (Stop 22 m₁) C
-ran_spent {C = C} {m = m} {m₁} a b = record {
-  means = λ P root x ds q rm p. gives_eq (spent_means (record { prog = P; root = root; cells = C; few = free C m }) main_form x m m.steps (sym a ∙ b)) (gives_spent refl (agree_self m₁));
+pub ran_spent : {F C : List ℕ} {d : ℕ} {v : Val} {m : Meter} {s : Stopped} → Err s ≡ step_charge m → Ran F C d v m (Err s) C
+ran_spent {C = C} {m = m} {s} a = record {
+  means = λ P root x ds q rm p. gives_eq (spent_means (record { prog = P; root = root; cells = C; few = free C m }) main_form x m m.steps (sym a)) (gives_spent (sym (ap (λ u. u.why) (step_spent m (sym a)).1)) (agree_self s.meter));
 }
 
-run_means : {F C W C₁ W₁ : List ℕ} {d : ℕ} {v : Val} {m m₁ : Meter} {x : Obj} {r : Ended} (S : Setting) (k : ℕ) → m.steps ≤ k → step_charge m ≡ Granted m₁ → Left m m₁ 1 0 0 → NameApplied F C W 0 d v m₁ r C₁ W₁ → d ≡ S.root (bytes "main") → Given F S k C W m v x → Ends C W 0 m (by S k main_form x m) C₁ W₁ r
+run_means : {F C W C₁ W₁ : List ℕ} {d : ℕ} {v : Val} {m m₁ : Meter} {x : Obj} {r : Ended} (S : Setting) (k : ℕ) → m.steps ≤ k → step_charge m ≡ Ok m₁ → Left m m₁ 1 0 0 → NameApplied F C W 0 d v m₁ r C₁ W₁ → d ≡ S.root (bytes "main") → Given F S k C W m v x → Ends C W 0 m (by S k main_form x m) C₁ W₁ r
 run_means S zero l e c n q g = absurd (omega (arith, c.steps))
 run_means {C = C} {W} {m = m} {x = x} S (suc k) l e c n q g =
     ends_eq (step_asked m (λ m₁. inside (by S k) k one S.prog main_form x m₁) ∙ ap (λ u. on_charge u no_step (λ m₁. inside (by S k) k one S.prog main_form x m₁)) e)
     (ends_since (since_step C W 0 c) (n.means S k (bytes "main") x main_name q (given_charged 1 0 k c (omega arith) g)))
 
-pub ran : {F T C W C₁ W₁ : List ℕ} {d : ℕ} {v : Val} {m m₁ : Meter} {ch : Charge} {r : Ended} → ch ≡ step_charge m → ch ≡ Granted m₁ → FormsCopied F T → length W ≡ 16384 → NameApplied T C W 0 d v m₁ r C₁ W₁ → Ran F C d v m r C₁
-ran {C = C} {m = m} a b t l n =
-    let e = sym a ∙ b in
+pub ran : {F T C W C₁ W₁ : List ℕ} {d : ℕ} {v : Val} {m m₁ : Meter} {r : Ended} → Ok m₁ ≡ step_charge m → FormsCopied F T → length W ≡ 16384 → NameApplied T C W 0 d v m₁ r C₁ W₁ → Ran F C d v m r C₁
+ran {C = C} {m = m} a t l n =
+    let e = sym a in
     record {
       means = λ P root x ds q rm p. ends_gives (run_means (record { prog = P; root = root; cells = C; few = free C m }) m.steps (omega arith) e (step_granted m e) n q
           (record { defs = λ w i. def_copied t (ds w i); still = same_refl C (free C m); low = omega arith; room = rm; ring = l; fuel = omega arith; arg = p }));

@@ -1,4 +1,10 @@
 -- Insert in the tables against the definition: its places wait, and are taken from the right.
+use Rattle.primitives.specs.Ends.{Ended}
+use Rattle.std.specs.Prelude.{Ok, Err}
+use Rattle.language.specs.declared.stops.Stopped.{Stopped}
+use Rattle.primitives.specs.declared.Reached.{Reached}
+use Rattle.language.specs.Charging.{stopped}
+use Rattle.language.specs.declared.stops.Stop.TheVariants.{Bottom}
 use Prim.Native.Nat.{ℕ, zero, suc, ◌+◌, ◌-◌, ◌*◌, ◌≤◌, ◌<◌, ◌%◌}
 use native.Mathlib.Omega.{arith}
 use mathlib.Core.Path.{◌≡◌, refl, sym, ap, subst, ◌∙◌}
@@ -13,15 +19,12 @@ use Rattle.cells.specs.Cells.{Rep, rep_pos, rep_neg, rep_symbol, rep_nil, rep_mo
 use Rattle.cells.specs.Parts.{held_at, Sized, drop_objs, onto}
 use Rattle.cells.proofs.Reps.{same_refl, same_trans, rep_ext}
 use Rattle.cells.proofs.Places.{drop_first}
-use Rattle.primitives.specs.declared.Ended.{Ended}
-use Rattle.primitives.specs.declared.Ended.TheVariants.{Done, Stop}
 use Rattle.primitives.proofs.Ending.{agree_self}
-use Rattle.evaluator.specs.Ring.{RingKept, Stopped, fell, Ends, ends_done, ends_stop}
+use Rattle.evaluator.specs.Ring.{RingKept, Stops, fell, Ends, ends_done, ends_stop}
 use Rattle.evaluator.specs.Applying.{Setting, by, At, Given, Spends, Folded, on_pair_of, firsts, Queued, Between, Spread, Inserted}
 use Rattle.evaluator.proofs.Steps.{since_refl, free_up, kept_refl, gave, gave_stop, ends_eq, stopped_eq, stopped_bind, given_next, given_value, given_held, few_cells}
 use Rattle.evaluator.proofs.Waits.{kept_before, kept_below}
 use Rattle.evaluator.proofs.Builds.{on_sequence}
-use Rattle.evaluator.proofs.Pairs.{folded_as}
 
 -- ---- what an insert does behind `es`, which are before it, the last first
 module _ (ev : Apply) (f : Form) where
@@ -30,7 +33,7 @@ module _ (ev : Apply) (f : Form) where
   behind m n [] x y xs ys e = e
   behind m n (z ∷ es) x y xs ys e = behind m n es z z (x :: xs) (y :: ys) (ap (λ u. bind u (λ a m₁. on_pair_of ev f z a m₁)) e)
 
-  behind_stop : (m : Meter) (es : List Obj) (x : Obj) (xs : Objs) {n : Meter} {a : ℕ} → Stopped (insert_on ev f (seq (x :: xs)) m) a n → Stopped (insert_on ev f (seq (onto es (x :: xs))) m) a n
+  behind_stop : (m : Meter) (es : List Obj) (x : Obj) (xs : Objs) {z : Stopped} → Stops (insert_on ev f (seq (x :: xs)) m) z → Stops (insert_on ev f (seq (onto es (x :: xs))) m) z
   unfolding onto
   behind_stop m [] x xs s = s
   behind_stop m (z ∷ es) x xs s = behind_stop m es z (x :: xs) (stopped_bind (λ a m₁. on_pair_of ev f z a m₁) s)
@@ -85,41 +88,41 @@ queue_on {C₁ = C₁} {a₁ = a₁} {top = top} {xs} q h l z u s k w = record {
 below_on : {W₀ W W₁ : List ℕ} {a n n₁ top : ℕ} (q : ℕ) → 0 < q → n ≤ a → n₁ + 2 ≤ n → RingKept W₀ W top (a + 2 * q) n → RingKept W W₁ ((top + (q - 1)) % 4096) n n₁ → RingKept W₀ W₁ top (a + 2 * (q - 1)) n₁
 below_on {top = top} q h l z k k₁ = record { keep = λ d b c. kept_below top (q - 1) k₁ d b (omega arith) (omega arith) ∙ k.keep d b (omega arith) }
 
-module _ {F C W C₁ W₁ : List ℕ} {g t : ℕ} {y : Val} {n : Meter} {r r₁ : Ended} (top q : ℕ) (te : t ≡ (top + (q - 1)) % 4096) (fo : Folded F C W t g y n r C₁ W₁) (e : r ≡ r₁) where
-  -- the fold, with its place and its end as they are known
-  known : Folded F C W ((top + (q - 1)) % 4096) g y n r₁ C₁ W₁
-  known = subst (λ (j : ℕ). Folded F C W j g y n r₁ C₁ W₁) te (folded_as e fo)
+module _ {F C W C₁ W₁ : List ℕ} {g t : ℕ} {y : Val} {n : Meter} {r : Ended} (top q : ℕ) (te : t ≡ (top + (q - 1)) % 4096) (fo : Folded F C W t g y n r C₁ W₁) where
+  -- the fold, with its place as it is known
+  known : Folded F C W ((top + (q - 1)) % 4096) g y n r C₁ W₁
+  known = subst (λ (j : ℕ). Folded F C W j g y n r C₁ W₁) te fo
 
-  folds : {S : Setting} {k : ℕ} {f : Form} {acc : Obj} (xs : Objs) → 0 < q → At F S g f → Given F S k C W n y acc → Queued W C (free C n) top q n.cells xs → Ends C W ((top + (q - 1)) % 4096) n (on_pair_of (by S k) f (nth_obj xs (q - 1)) acc n) C₁ W₁ r₁ × Spends r₁ n 2
+  folds : {S : Setting} {k : ℕ} {f : Form} {acc : Obj} (xs : Objs) → 0 < q → At F S g f → Given F S k C W n y acc → Queued W C (free C n) top q n.cells xs → Ends C W ((top + (q - 1)) % 4096) n (on_pair_of (by S k) f (nth_obj xs (q - 1)) acc n) C₁ W₁ r × Spends r n 2
   folds {S} {k} {f} {acc} xs h fa gv w = known.means S k f (nth_obj xs (q - 1)) acc fa gv (λ l. next_held q h w l)
 
-pub between_turn : {F Cs Ws C W C₁ W₁ : List ℕ} {top g many q t : ℕ} {v y z : Val} {m n n₁ : Meter} {r : Ended} → 0 < q → Inserting F Cs Ws top g many v m C W q y n → t ≡ (top + (q - 1)) % 4096 → Folded F C W t g y n r C₁ W₁ → r ≡ Done z n₁ → length C₁ ≡ length C → Inserting F Cs Ws top g many v m C₁ W₁ (q - 1) z n₁
-between_turn {Cs = Cs} {C = C} {C₁ = C₁} {top = top} {q = q} {m = m} {n} {n₁} h b te fo e lc = record {
-  sinks = (omega (arith, (known top q te fo e).falls.0, b.sinks.0), (known top q te fo e).falls.1 ∙ b.sinks.1);
+pub between_turn : {F Cs Ws C W C₁ W₁ : List ℕ} {top g many q t : ℕ} {v y : Val} {m n : Meter} {z : Reached} → 0 < q → Inserting F Cs Ws top g many v m C W q y n → t ≡ (top + (q - 1)) % 4096 → Folded F C W t g y n (Ok z) C₁ W₁ → length C₁ ≡ length C → Inserting F Cs Ws top g many v m C₁ W₁ (q - 1) z.value z.meter
+between_turn {Cs = Cs} {C = C} {C₁ = C₁} {top = top} {q = q} {m = m} {n} {z} h b te fo lc = record {
+  sinks = (omega (arith, (known top q te fo).falls.0, b.sinks.0), (known top q te fo).falls.1 ∙ b.sinks.1);
   long_C = lc ∙ b.long_C;
   means = λ S k f xs acc fa gv w.
       let p = b.means S k f xs acc fa gv w in
-      let u = folds top q te fo e xs h fa p.given p.queued in
+      let u = folds top q te fo xs h fa p.given p.queued in
       let s = gave u.0 in
       record {
         acc = s.obj;
-        given = given_value p.given (known top q te fo e).falls.0 s;
+        given = given_value p.given (known top q te fo).falls.0 s;
         same = same_trans (free_up Cs C m n p.fewer p.long) p.same s.made.same;
         fewer = omega (arith, u.1, p.fewer);
         spends = omega (arith, u.1, p.spends);
         long = s.made.long ∙ p.long;
         kept = below_on q h p.fewer u.1 p.kept s.kept;
-        queued = queue_on q h (few_cells p.given.room).0 u.1 (free_up C C₁ n n₁ s.made.fewer s.made.long) s.made.same s.kept p.queued;
-        whole = p.whole ∙ ap (λ ys. insert_on (by S k) f (seq ys) n) (one_taken xs (p.acc :: nil) q h) ∙ behind (by S k) f n n₁ (firsts xs (q - 1)) (nth_obj xs (q - 1)) s.obj (p.acc :: nil) nil s.is;
+        queued = queue_on q h (few_cells p.given.room).0 u.1 (free_up C C₁ n z.meter s.made.fewer s.made.long) s.made.same s.kept p.queued;
+        whole = p.whole ∙ ap (λ ys. insert_on (by S k) f (seq ys) n) (one_taken xs (p.acc :: nil) q h) ∙ behind (by S k) f n z.meter (firsts xs (q - 1)) (nth_obj xs (q - 1)) s.obj (p.acc :: nil) nil s.is;
       };
 }
 
-pub between_halt : {F Cs Ws C W C₁ W₁ : List ℕ} {top g many q t a : ℕ} {v y : Val} {m n n₁ : Meter} {r : Ended} → 0 < q → Inserting F Cs Ws top g many v m C W q y n → t ≡ (top + (q - 1)) % 4096 → Folded F C W t g y n r C₁ W₁ → r ≡ Stop a n₁ → Between F Cs Ws top g many v m (Stop a n₁) C₁ W₁
-between_halt {top = top} {q = q} {n = n} h b te fo e = record {
+pub between_halt : {F Cs Ws C W C₁ W₁ : List ℕ} {top g many q t : ℕ} {v y : Val} {m n : Meter} {z : Stopped} → 0 < q → Inserting F Cs Ws top g many v m C W q y n → t ≡ (top + (q - 1)) % 4096 → Folded F C W t g y n (Err z) C₁ W₁ → Between F Cs Ws top g many v m (Err z) C₁ W₁
+between_halt {top = top} {q = q} {n = n} h b te fo = record {
   sinks = tt;
   means = λ S k f xs acc fa gv w.
       let p = b.means S k f xs acc fa gv w in
-      let s = gave_stop (folds top q te fo e xs h fa p.given p.queued).0 in
+      let s = gave_stop (folds top q te fo xs h fa p.given p.queued).0 in
       (ends_stop (stopped_eq (p.whole ∙ ap (λ ys. insert_on (by S k) f (seq ys) n) (one_taken xs (p.acc :: nil) q h)) (behind_stop (by S k) f n (firsts xs (q - 1)) (nth_obj xs (q - 1)) (p.acc :: nil) s)), tt);
 }
 
@@ -128,12 +131,12 @@ unfolding onto firsts
 none_left ev f xs acc n zero h = refl
 none_left ev f xs acc n (suc q) h = absurd (omega arith)
 
-pub between_end : {F Cs Ws C W : List ℕ} {top g many q : ℕ} {v y : Val} {m n : Meter} → q ≤ 0 → Inserting F Cs Ws top g many v m C W q y n → Between F Cs Ws top g many v m (Done y n) C W
-between_end {q = q} {y = y} {n = n} z b = record {
+pub between_end : {F Cs Ws C W : List ℕ} {top g many q : ℕ} {v : Val} {m : Meter} {y : Reached} → q ≤ 0 → Inserting F Cs Ws top g many v m C W q y.value y.meter → Between F Cs Ws top g many v m (Ok y) C W
+between_end {q = q} {y = y} z b = record {
   sinks = b.sinks;
   means = λ S k f xs acc fa gv w.
       let p = b.means S k f xs acc fa gv w in (
-        ends_done {v = y} {m' = n} (record { obj = p.acc; is = p.whole ∙ none_left (by S k) f xs p.acc n q z; made = record { rep = p.given.arg; same = p.same; room = p.given.room; fewer = p.fewer; long = p.long }; ring = p.given.ring; kept = record { keep = λ d h l. p.kept.keep d h (omega arith) } }),
+        ends_done {r = y} (record { obj = p.acc; is = p.whole ∙ none_left (by S k) f xs p.acc y.meter q z; made = record { rep = p.given.arg; same = p.same; room = p.given.room; fewer = p.fewer; long = p.long }; ring = p.given.ring; kept = record { keep = λ d h l. p.kept.keep d h (omega arith) } }),
         omega (arith, p.spends),
       );
 }
@@ -146,14 +149,14 @@ atom_insert S k f m h (rep_symbol e i w) = refl
 atom_insert S k f m h (rep_nil e w) = absurd (h e)
 atom_insert S k f m h (rep_more e w l a b) = absurd (h e)
 
-pub insert_atom : {F C W : List ℕ} {top g : ℕ} {v : Val} {m : Meter} → (v.tag ≡ 3 → ⊥) → Inserted F C W top g v m (Stop 21 m) C W
+pub insert_atom : {F C W : List ℕ} {top g : ℕ} {v : Val} {m : Meter} → (v.tag ≡ 3 → ⊥) → Inserted F C W top g v m (stopped Bottom m) C W
 insert_atom {m = m} h = record { sinks = tt; means = λ S k f x fa g. ends_stop (fell (atom_insert S k f m h g.arg) refl (agree_self m)) }
 
 none_inserted : (xs : Objs) (S : Setting) (k : ℕ) (f : Form) (m : Meter) → length_of xs ≡ 0 → insert_on (by S k) f (seq xs) m ≡ bottom m
 none_inserted nil S k f m e = refl
 none_inserted (x :: xs) S k f m e = absurd (omega arith)
 
-pub insert_none : {F C W : List ℕ} {top g many : ℕ} {v : Val} {m : Meter} → v.tag ≡ 3 → Sized v many → many ≡ 0 → Inserted F C W top g v m (Stop 21 m) C W
+pub insert_none : {F C W : List ℕ} {top g many : ℕ} {v : Val} {m : Meter} → v.tag ≡ 3 → Sized v many → many ≡ 0 → Inserted F C W top g v m (stopped Bottom m) C W
 insert_none {C = C} {m = m} tg s z = record {
   sinks = tt;
   means = λ S k f x fa g. on_sequence (insert_on (by S k) f) tg g (λ xs g₁.

@@ -1,23 +1,25 @@
 -- A while in the tables against the definition.
+use Rattle.std.specs.Prelude.{Ok, Err}
+use Rattle.language.specs.declared.stops.Stopped.{Stopped}
+use Rattle.primitives.specs.declared.Reached.{Reached}
 use Prim.Native.Nat.{ℕ, zero, suc, ◌+◌, ◌*◌, ◌≤◌, ◌<◌}
 use native.Mathlib.Omega.{arith}
 use mathlib.Core.Path.{◌≡◌, refl, sym, ap, ◌∙◌}
 use mathlib.Core.List.{List}
 use lib.ListN.{length}
+use mathlib.Core.Bool.{true, false, not}
+use borrow.Author.Tests.{not-true, not-false}
 use Rattle.language.specs.Objects.{Obj}
 use Rattle.language.specs.Forms.{Form}
 use Rattle.language.specs.Numbers.{one}
 use Rattle.language.specs.declared.Meter.{Meter}
 use Rattle.language.specs.declared.Val.{Val}
-use Rattle.primitives.specs.declared.Ended.{Ended}
-use Rattle.primitives.specs.declared.Ended.TheVariants.{Done, Stop}
-use Rattle.evaluator.specs.Ring.{Stopped, ends_done, ends_stop}
+use Rattle.evaluator.specs.Ring.{Stops, ends_done, ends_stop}
 use Rattle.language.specs.Evaluation.{Out, value, spent, bind, decide, while_by, inside, no_step}
 use Rattle.evaluator.specs.declared.waiting.Asked.{Asked}
-use Rattle.evaluator.specs.declared.waiting.Asked.TheVariants.{Says, Stop as AskStop}
 use Rattle.linker.specs.Linked.{link_at}
 use Rattle.evaluator.specs.Applying.{Setting, by, At, Given, Applied, Repeated, Questioned}
-use Rattle.evaluator.proofs.Steps.{Since, since, since_refl, since_trans, gave, gave_stop, stopped_eq, stopped_bind, given_value, given_again, applied_as, fell_by}
+use Rattle.evaluator.proofs.Steps.{Since, since, since_refl, since_trans, gave, gave_stop, stopped_eq, stopped_bind, given_value, given_again, fell_by}
 use Rattle.evaluator.proofs.Chains.{says_fell, says_names, on_yes, on_no, on_stop, decided_yes, decided_no}
 
 pub record RepeatNow (F : List ℕ) (S : Setting) (k : ℕ) (Cs Ws : List ℕ) (top : ℕ) (m : Meter) (p f : Form) (e : Out Obj) (C W : List ℕ) (v : Val) (n : Meter) : Type 0 where
@@ -54,65 +56,61 @@ dry : (k : ℕ) (S : Setting) (f : Form) (x : Obj) (m : Meter) → m.steps ≡ 0
 dry zero S f x m h = refl
 dry (suc k) S f x m h = ap (λ (s : ℕ). elim s [ zero ↦ spent no_step m | suc t ↦ inside (by S k) k one S.prog f x (record { steps = t; names = m.names; cells = m.cells }) ]) h
 
-stop_turn : (j k : ℕ) (S : Setting) (p f : Form) (x : Obj) (n n₁ : Meter) {a : ℕ} → n.steps ≤ j → ((on_T on_F : Meter → Out Obj) → Stopped (bind (by S k p x n) (λ b m₁. decide b m₁ on_T on_F)) a n₁) → Stopped (while_by (by S k) j p f x n) a n₁
-stop_turn zero k S p f x n n₁ l s = stopped_eq (sym (ap (λ w. bind w (λ b m₁. decide b m₁ (λ m₂. value x m₂) (λ m₂. value x m₂))) (dry k S p x n (omega arith)))) (s (λ m₂. value x m₂) (λ m₂. value x m₂))
-stop_turn (suc i) k S p f x n n₁ l s = s (on_T S k i p f x) (λ m₂. value x m₂)
+stop_turn : (j k : ℕ) (S : Setting) (p f : Form) (x : Obj) (n : Meter) {s : Stopped} → n.steps ≤ j → ((on_T on_F : Meter → Out Obj) → Stops (bind (by S k p x n) (λ b m₁. decide b m₁ on_T on_F)) s) → Stops (while_by (by S k) j p f x n) s
+stop_turn zero k S p f x n l s = stopped_eq (sym (ap (λ w. bind w (λ b m₁. decide b m₁ (λ m₂. value x m₂) (λ m₂. value x m₂))) (dry k S p x n (omega arith)))) (s (λ m₂. value x m₂) (λ m₂. value x m₂))
+stop_turn (suc i) k S p f x n l s = s (on_T S k i p f x) (λ m₂. value x m₂)
 
-pub repeat_stop : {F Cs Ws C W C₁ W₁ : List ℕ} {top h a : ℕ} {v₀ v : Val} {m n n₁ : Meter} {r : Asked} → Repeating F Cs Ws top h v₀ m C W v n → Questioned F C W top h v n r C₁ W₁ → r ≡ AskStop a n₁ → Repeated F Cs Ws top h v₀ m (Stop a n₁) C₁ W₁
-repeat_stop {n = n} {n₁} c b e = record {
+pub repeat_stop : {F Cs Ws C W C₁ W₁ : List ℕ} {top h : ℕ} {v₀ v : Val} {m n : Meter} {s : Stopped} → Repeating F Cs Ws top h v₀ m C W v n → Questioned F C W top h v n (Err s) C₁ W₁ → Repeated F Cs Ws top h v₀ m (Err s) C₁ W₁
+repeat_stop {n = n} c b = record {
   sinks = tt;
   means = λ S k p f x pa fa g. let t = c.means S k p f x pa fa g in
-      ends_stop (stopped_eq t.whole (stop_turn t.j k S p f t.x n n₁ t.low (on_stop S k b e pa t.given)));
+      ends_stop (stopped_eq t.whole (stop_turn t.j k S p f t.x n t.low (on_stop S k b pa t.given)));
 }
 
-pub repeat_done : {F Cs Ws C W C₁ W₁ : List ℕ} {top h z : ℕ} {v₀ v : Val} {m n n₁ : Meter} {r : Asked} → Repeating F Cs Ws top h v₀ m C W v n → Questioned F C W top h v n r C₁ W₁ → r ≡ Says z n₁ → z ≡ 0 → Repeated F Cs Ws top h v₀ m (Done v n₁) C₁ W₁
-repeat_done {v = v} {n = n} {n₁} c b e y = record {
-  sinks = (omega (arith, says_fell b e, c.sinks.0), says_names b e ∙ c.sinks.1);
+pub repeat_done : {F Cs Ws C W C₁ W₁ : List ℕ} {top h : ℕ} {v₀ v : Val} {m n : Meter} {q : Asked} → Repeating F Cs Ws top h v₀ m C W v n → Questioned F C W top h v n (Ok q) C₁ W₁ → not q.yes ≡ true → Repeated F Cs Ws top h v₀ m (Ok (record { value = v; meter = q.meter })) C₁ W₁
+repeat_done {v = v} {n = n} {q} c b y = record {
+  sinks = (omega (arith, says_fell b, c.sinks.0), says_names b ∙ c.sinks.1);
   means = λ S k p f x pa fa g. let t = c.means S k p f x pa fa g in
-      let u = on_no S k b e y pa t.given in
-      let w = turned t.j k S p f t.x n t.low (omega (arith, says_fell b e)) in
+      let u = on_no S k b (not-true q.yes y) pa t.given in
+      let w = turned t.j k S p f t.x n t.low (omega (arith, says_fell b)) in
       let s = since_trans t.since (since u.done) in
-      let a = given_again t.given (says_fell b e) u.done in
-      ends_done {v = v} {m' = n₁} (record { obj = t.x; is = t.whole ∙ w.2 ∙ decided_no (on_T S k w.0 p f t.x) (λ m₂. value t.x m₂) u; made = record { rep = a.arg; same = s.same; room = a.room; fewer = s.fewer; long = s.long }; ring = a.ring; kept = s.kept });
+      let a = given_again t.given (says_fell b) u.done in
+      ends_done {r = record { value = v; meter = q.meter }} (record { obj = t.x; is = t.whole ∙ w.2 ∙ decided_no (on_T S k w.0 p f t.x) (λ m₂. value t.x m₂) u; made = record { rep = a.arg; same = s.same; room = a.room; fewer = s.fewer; long = s.long }; ring = a.ring; kept = s.kept });
 }
 
 -- the question said T, and then f
-module _ {F Cs Ws C W C₁ W₁ C₂ W₂ : List ℕ} {top h g z : ℕ} {v₀ v : Val} {m n n₁ : Meter} {r : Asked} {r₂ : Ended} (q : g ≡ link_at F h) (c : Repeating F Cs Ws top h v₀ m C W v n) (b : Questioned F C W top h v n r C₁ W₁) (e : r ≡ Says z n₁) (y : z ≡ 0 → ⊥) (ap2 : Applied F C₁ W₁ top g v n₁ r₂ C₂ W₂) where
-  pub repeat_stop_2 : {a : ℕ} {n₂ : Meter} → r₂ ≡ Stop a n₂ → Repeated F Cs Ws top h v₀ m (Stop a n₂) C₂ W₂
-  repeat_stop_2 e2 =
-      let d = applied_as e2 ap2 in
-      record {
-        sinks = tt;
-        means = λ S k p f x pa fa gv. let t = c.means S k p f x pa fa gv in
-            let u = on_yes S k b e y pa t.given in
-            let w = turned t.j k S p f t.x n t.low (omega (arith, says_fell b e)) in
-            let s = gave_stop (d.means S k f t.x (rw q fa) (given_again t.given (says_fell b e) u.done)) in
-            ends_stop (stopped_eq (t.whole ∙ w.2 ∙ decided_yes (on_T S k w.0 p f t.x) (λ m₂. value t.x m₂) u) (stopped_bind (λ y m₃. while_by (by S k) w.0 p f y m₃) s));
-      }
+module _ {F Cs Ws C W C₁ W₁ C₂ W₂ : List ℕ} {top h g : ℕ} {v₀ v : Val} {m n : Meter} {said : Asked} (q : g ≡ link_at F h) (c : Repeating F Cs Ws top h v₀ m C W v n) (b : Questioned F C W top h v n (Ok said) C₁ W₁) (z : not said.yes ≡ false) where
+  pub repeat_stop_2 : {s : Stopped} → Applied F C₁ W₁ top g v said.meter (Err s) C₂ W₂ → Repeated F Cs Ws top h v₀ m (Err s) C₂ W₂
+  repeat_stop_2 d = record {
+    sinks = tt;
+    means = λ S k p f x pa fa gv. let t = c.means S k p f x pa fa gv in
+        let u = on_yes S k b (not-false said.yes z) pa t.given in
+        let w = turned t.j k S p f t.x n t.low (omega (arith, says_fell b)) in
+        let s = gave_stop (d.means S k f t.x (rw q fa) (given_again t.given (says_fell b) u.done)) in
+        ends_stop (stopped_eq (t.whole ∙ w.2 ∙ decided_yes (on_T S k w.0 p f t.x) (λ m₂. value t.x m₂) u) (stopped_bind (λ y m₃. while_by (by S k) w.0 p f y m₃) s));
+  }
 
-  pub repeat_less : {y₂ : Val} {n₂ : Meter} → r₂ ≡ Done y₂ n₂ → n₂.steps < n.steps
-  repeat_less e2 = omega (arith, says_fell b e, fell_by ap2 e2)
+  pub repeat_less : {y₂ : Reached} → Applied F C₁ W₁ top g v said.meter (Ok y₂) C₂ W₂ → y₂.meter.steps < n.steps
+  repeat_less d = omega (arith, says_fell b, fell_by d)
 
-  pub repeat_next : {y₂ : Val} {n₂ : Meter} → r₂ ≡ Done y₂ n₂ → length C₁ ≡ length C → length C₂ ≡ length C₁ → Repeating F Cs Ws top h v₀ m C₂ W₂ y₂ n₂
-  repeat_next {n₂ = n₂} e2 l1 l2 =
-      let d = applied_as e2 ap2 in
-      record {
-        sinks = (omega (arith, says_fell b e, d.falls.0, c.sinks.0), d.falls.1 ∙ says_names b e ∙ c.sinks.1);
-        long_C = l2 ∙ l1 ∙ c.long_C;
-        means = λ S k p f x pa fa gv. let t = c.means S k p f x pa fa gv in
-            let u = on_yes S k b e y pa t.given in
-            let w = turned t.j k S p f t.x n t.low (omega (arith, says_fell b e)) in
-            let ga = given_again t.given (says_fell b e) u.done in
-            let s = gave (d.means S k f t.x (rw q fa) ga) in
-            record {
-              j = w.0;
-              x = s.obj;
-              given = given_value ga d.falls.0 s;
-              since = since_trans t.since (since_trans (since u.done) (since s));
-              low = omega (arith, w.1, says_fell b e, d.falls.0);
-              whole = t.whole ∙ w.2 ∙ decided_yes (on_T S k w.0 p f t.x) (λ m₂. value t.x m₂) u ∙ ap (λ a. bind a (λ y m₃. while_by (by S k) w.0 p f y m₃)) s.is;
-            };
-      }
+  pub repeat_next : {y₂ : Reached} → Applied F C₁ W₁ top g v said.meter (Ok y₂) C₂ W₂ → length C₁ ≡ length C → length C₂ ≡ length C₁ → Repeating F Cs Ws top h v₀ m C₂ W₂ y₂.value y₂.meter
+  repeat_next {y₂} d l1 l2 = record {
+    sinks = (omega (arith, says_fell b, d.falls.0, c.sinks.0), d.falls.1 ∙ says_names b ∙ c.sinks.1);
+    long_C = l2 ∙ l1 ∙ c.long_C;
+    means = λ S k p f x pa fa gv. let t = c.means S k p f x pa fa gv in
+        let u = on_yes S k b (not-false said.yes z) pa t.given in
+        let w = turned t.j k S p f t.x n t.low (omega (arith, says_fell b)) in
+        let ga = given_again t.given (says_fell b) u.done in
+        let s = gave (d.means S k f t.x (rw q fa) ga) in
+        record {
+          j = w.0;
+          x = s.obj;
+          given = given_value ga d.falls.0 s;
+          since = since_trans t.since (since_trans (since u.done) (since s));
+          low = omega (arith, w.1, says_fell b, d.falls.0);
+          whole = t.whole ∙ w.2 ∙ decided_yes (on_T S k w.0 p f t.x) (λ m₂. value t.x m₂) u ∙ ap (λ a. bind a (λ y m₃. while_by (by S k) w.0 p f y m₃)) s.is;
+        };
+  }
 
-pub below_turn : {F Cs Ws C W C₁ W₁ : List ℕ} {top h z : ℕ} {v₀ v : Val} {m n n₁ : Meter} {r : Asked} (t : ℕ) → Repeating F Cs Ws top h v₀ m C W v n → Questioned F C W top h v n r C₁ W₁ → r ≡ Says z n₁ → 5 * m.steps + 4 ≡ t → 5 * n₁.steps + 1 < t
-below_turn t c b e q = omega (arith, says_fell b e, c.sinks.0)
+pub below_turn : {F Cs Ws C W C₁ W₁ : List ℕ} {top h : ℕ} {v₀ v : Val} {m n : Meter} {q : Asked} (t : ℕ) → Repeating F Cs Ws top h v₀ m C W v n → Questioned F C W top h v n (Ok q) C₁ W₁ → 5 * m.steps + 4 ≡ t → 5 * q.meter.steps + 1 < t
+below_turn t c b e = omega (arith, says_fell b, c.sinks.0)

@@ -1,4 +1,7 @@
 -- One part of a run after the other: what is kept, what is given next, and how an outcome carries on.
+use Rattle.std.specs.Prelude.{Ok, Err}
+use Rattle.language.specs.declared.stops.Stopped.{Stopped}
+use Rattle.primitives.specs.declared.Reached.{Reached}
 use Prim.Native.Nat.{ℕ, ◌+◌, ◌*◌, ◌≤◌, ◌<◌}
 use native.Mathlib.Omega.{arith}
 use mathlib.Core.Path.{◌≡◌, refl, sym, ap, subst, ◌∙◌}
@@ -8,16 +11,12 @@ use Rattle.language.specs.Objects.{Obj, truth_of, is_T, is_F, neither}
 use Rattle.language.specs.Evaluation.{Out, bottom, bind, close, decide}
 use Rattle.language.specs.Charging.{step_charge, cells_charge, name_charge}
 use Rattle.language.specs.declared.Meter.{Meter}
-use Rattle.language.specs.declared.Charge.{Charge}
-use Rattle.language.specs.declared.Charge.TheVariants.{Granted}
 use Rattle.language.specs.declared.Val.{Val}
 use Rattle.language.proofs.Charging.{Left, step_granted, cells_granted, name_granted}
 use Rattle.cells.specs.Cells.{Rep, Same, Room, free}
 use Rattle.cells.proofs.Reps.{same_refl, same_trans, rep_ext}
-use Rattle.primitives.specs.declared.Ended.{Ended}
-use Rattle.primitives.specs.declared.Ended.TheVariants.{Done, Stop}
-use Rattle.primitives.specs.Ends.{Agree, Gives, Sinks}
-use Rattle.evaluator.specs.Ring.{RingKept, Finished, Stopped, fell, ran_out, Ends, ends_done, ends_stop}
+use Rattle.primitives.specs.Ends.{Ended, Agree, Gives, Sinks}
+use Rattle.evaluator.specs.Ring.{RingKept, Finished, Stops, fell, ran_out, Ends, ends_done, ends_stop}
 use Rattle.evaluator.specs.Applying.{Setting, Given, Applied, Falls}
 
 -- what a part of a run leaves of what stood before
@@ -52,10 +51,10 @@ pub since_step : (C W : List ℕ) (top : ℕ) {m k : Meter} → Left m k 1 0 0 �
 since_step C W top {m} {k} c = record { same = same_refl C (free C m); fewer = omega (arith, c.cells); long = refl; kept = kept_refl W top m.cells k.cells }
 
 -- ---- outcomes
-pub gave : {C W C₁ W₁ : List ℕ} {top : ℕ} {v : Val} {m m₁ : Meter} {e : Out Obj} → Ends C W top m e C₁ W₁ (Done v m₁) → Finished C W top m e v m₁ C₁ W₁
+pub gave : {C W C₁ W₁ : List ℕ} {top : ℕ} {m : Meter} {e : Out Obj} {r : Reached} → Ends C W top m e C₁ W₁ (Ok r) → Finished C W top m e r.value r.meter C₁ W₁
 gave (ends_done f) = f
 
-pub gave_stop : {C W C₁ W₁ : List ℕ} {top n : ℕ} {m m₁ : Meter} {e : Out Obj} → Ends C W top m e C₁ W₁ (Stop n m₁) → Stopped e n m₁
+pub gave_stop : {C W C₁ W₁ : List ℕ} {top : ℕ} {m : Meter} {e : Out Obj} {z : Stopped} → Ends C W top m e C₁ W₁ (Err z) → Stops e z
 gave_stop (ends_stop f) = f
 
 pub ends_since : {C W C₁ W₁ C₂ W₂ : List ℕ} {top : ℕ} {m m₁ : Meter} {e : Out Obj} {r : Ended} → Since C W top m C₁ W₁ m₁ → Ends C₁ W₁ top m₁ e C₂ W₂ r → Ends C W top m e C₂ W₂ r
@@ -70,18 +69,18 @@ ends_eq {C} {W} {C₁} {W₁} {top} {m} {r = r} q g = subst (λ u. Ends C W top 
 pub gives_eq : {C C₁ : List ℕ} {m : Meter} {e e' : Out Obj} {r : Ended} → e' ≡ e → Gives C m C₁ e r → Gives C m C₁ e' r
 gives_eq {C} {C₁} {m} {r = r} q g = subst (λ u. Gives C m C₁ u r) (sym q) g
 
-pub stopped_eq : {A : Type 0} {e e' : Out A} {n : ℕ} {m : Meter} → e' ≡ e → Stopped e n m → Stopped e' n m
+pub stopped_eq : {A : Type 0} {e e' : Out A} {s : Stopped} → e' ≡ e → Stops e s → Stops e' s
 stopped_eq q (fell e z a) = fell (q ∙ e) z a
 stopped_eq q (ran_out e z a) = ran_out (q ∙ e) z a
 
-pub stopped_bind : {A B : Type 0} {u : Out A} {n : ℕ} {m : Meter} (k : A → Meter → Out B) → Stopped u n m → Stopped (bind u k) n m
+pub stopped_bind : {A B : Type 0} {u : Out A} {s : Stopped} (k : A → Meter → Out B) → Stops u s → Stops (bind u k) s
 stopped_bind k (fell e z a) = fell (ap (λ u. bind u k) e) z a
 stopped_bind k (ran_out e z a) = ran_out (ap (λ u. bind u k) e) z a
 
 agree_names : {m m' : Meter} (d : ℕ) → Agree m m' → Agree (record { steps = m.steps; names = d; cells = m.cells }) m'
 agree_names d a = record { steps = a.steps; cells = a.cells }
 
-pub stopped_close : {A : Type 0} {u : Out A} {n : ℕ} {m : Meter} (d : ℕ) → Stopped u n m → Stopped (close d u) n m
+pub stopped_close : {A : Type 0} {u : Out A} {s : Stopped} (d : ℕ) → Stops u s → Stops (close d u) s
 stopped_close d (fell e z a) = fell (ap (λ u. close d u) e) z (agree_names d a)
 stopped_close d (ran_out e z a) = ran_out (ap (λ u. close d u) e) z (agree_names d a)
 
@@ -114,16 +113,13 @@ pub few_cells : {C : List ℕ} {m : Meter} → Room C m → (m.cells ≤ 4096) �
 few_cells r = (omega (arith, r.fits, r.small), omega (arith, r.fits, r.small))
 
 -- ---- ends as they are known
-pub applied_as : {F C W C₁ W₁ : List ℕ} {top i : ℕ} {v : Val} {m : Meter} {r r' : Ended} → r ≡ r' → Applied F C W top i v m r C₁ W₁ → Applied F C W top i v m r' C₁ W₁
-applied_as {F} {C} {W} {C₁} {W₁} {top} {i} {v} {m} e a = subst (λ r. Applied F C W top i v m r C₁ W₁) e a
-
 pub sinks_after : (r : Ended) (m n : Meter) → Falls r n → (n.steps < m.steps) × (n.names ≡ m.names) → Sinks r m
-sinks_after (Done v k) m n f l = (omega (arith, f.0, l.0), f.1 ∙ l.1)
-sinks_after (Stop v k) m n f l = tt
+sinks_after (Ok q) m n f l = (omega (arith, f.0, l.0), f.1 ∙ l.1)
+sinks_after (Err q) m n f l = tt
 
 pub sinks_le : (r : Ended) (m n : Meter) → Sinks r n → (n.steps ≤ m.steps) × (n.names ≡ m.names) → Sinks r m
-sinks_le (Done v k) m n f l = (omega (arith, f.0, l.0), f.1 ∙ l.1)
-sinks_le (Stop v k) m n f l = tt
+sinks_le (Ok q) m n f l = (omega (arith, f.0, l.0), f.1 ∙ l.1)
+sinks_le (Err q) m n f l = tt
 
 -- ---- questions
 module _ (b : Obj) (m : Meter) (on_T on_F : Meter → Out Obj) where
@@ -137,14 +133,14 @@ module _ (b : Obj) (m : Meter) (on_T on_F : Meter → Out Obj) where
   decide_none e = ap (λ t. elim t [ is_T ↦ on_T m | is_F ↦ on_F m | neither ↦ bottom m ]) e
 
 -- ---- the measure falls: five times the steps, and 0 to 4 by how far a function is from `step`
-pub below_step : (m k : Meter) (t : ℕ) {ch : Charge} → ch ≡ step_charge m → ch ≡ Granted k → 5 * m.steps ≡ t → 5 * k.steps + 4 < t
-below_step m k t a b e = omega (arith, (step_granted m (sym a ∙ b)).steps)
+pub below_step : (m k : Meter) (t : ℕ) → Ok k ≡ step_charge m → 5 * m.steps ≡ t → 5 * k.steps + 4 < t
+below_step m k t a e = omega (arith, (step_granted m (sym a)).steps)
 
-pub below_open : (m k : Meter) (t : ℕ) {ch : Charge} → ch ≡ name_charge m → ch ≡ Granted k → 5 * m.steps + 4 ≡ t → 5 * k.steps + 1 < t
-below_open m k t a b e = omega (arith, (name_granted m (sym a ∙ b)).steps)
+pub below_open : (m k : Meter) (t : ℕ) → Ok k ≡ name_charge m → 5 * m.steps + 4 ≡ t → 5 * k.steps + 1 < t
+below_open m k t a e = omega (arith, (name_granted m (sym a)).steps)
 
-pub below_taken : (m k : Meter) (t n r : ℕ) {ch : Charge} → 1 < r → ch ≡ cells_charge n m → ch ≡ Granted k → 5 * m.steps + r ≡ t → 5 * k.steps + 1 < t
-below_taken m k t n r z a b e = omega (arith, (cells_granted n m (sym a ∙ b)).steps)
+pub below_taken : (m k : Meter) (t n r : ℕ) → 1 < r → Ok k ≡ cells_charge n m → 5 * m.steps + r ≡ t → 5 * k.steps + 1 < t
+below_taken m k t n r z a e = omega (arith, (cells_granted n m (sym a)).steps)
 
-pub fell_by : {F C W C₁ W₁ : List ℕ} {top i : ℕ} {v y : Val} {m k : Meter} {r : Ended} → Applied F C W top i v m r C₁ W₁ → r ≡ Done y k → k.steps < m.steps
-fell_by a e = (applied_as e a).falls.0
+pub fell_by : {F C W C₁ W₁ : List ℕ} {top i : ℕ} {v : Val} {m : Meter} {y : Reached} → Applied F C W top i v m (Ok y) C₁ W₁ → y.meter.steps < m.steps
+fell_by a = a.falls.0

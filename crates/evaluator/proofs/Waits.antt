@@ -1,4 +1,6 @@
 -- The ring of waiting values: what a value put there leaves of the others, and values that wait while the next are made.
+use Rattle.std.specs.Prelude.{Ok, Err}
+use Rattle.language.specs.declared.stops.Stopped.{Stopped}
 use Prim.Native.Nat.{ℕ, suc, ◌+◌, ◌-◌, ◌≤◌, ◌<◌, ◌%◌}
 use native.Mathlib.Omega.{arith}
 use mathlib.Core.Path.{◌≡◌, refl, sym, ap, subst, ◌∙◌}
@@ -8,18 +10,14 @@ use Rattle.language.specs.Objects.{Obj, seq, Objs, nil, ◌::◌, length_of}
 use Rattle.language.specs.Evaluation.{Out, value, bottom, spent, bind, ask_cells, gathered, no_cell}
 use Rattle.language.specs.Charging.{cells_charge}
 use Rattle.language.specs.declared.Meter.{Meter}
-use Rattle.language.specs.declared.Charge.{Charge}
-use Rattle.language.specs.declared.Charge.TheVariants.{Granted, Spent}
 use Rattle.language.specs.declared.Val.{Val}
-use Rattle.language.proofs.Charging.{cells_asked, cells_granted, on_charge}
+use Rattle.language.proofs.Charging.{cells_asked, cells_granted, cells_spent, on_charge}
 use Rattle.cells.specs.Cells.{Rep, Same, Room, free, val_at}
 use Rattle.cells.specs.Parts.{held_at, hold_at, onto, Held, no_held, a_held, Gathered}
 use Rattle.cells.proofs.Reps.{same_refl, same_trans, rep_ext, free_is, free_room}
 use Rattle.cells.proofs.Ring.{hold_same, hold_other}
-use Rattle.primitives.specs.declared.Ended.{Ended}
-use Rattle.primitives.specs.declared.Ended.TheVariants.{Done, Stop}
-use Rattle.primitives.specs.Ends.{Gives, gives_value, gives_bottom, gives_spent}
-use Rattle.evaluator.specs.Ring.{RingKept, Finished, Stopped, fell, ran_out, Ends, ends_done, ends_stop}
+use Rattle.primitives.specs.Ends.{Ended, reached, Gives, gives_value, gives_bottom, gives_spent}
+use Rattle.evaluator.specs.Ring.{RingKept, Finished, Stops, fell, ran_out, Ends, ends_done, ends_stop}
 use Rattle.evaluator.specs.Applying.{Taken, Collected}
 use Rattle.primitives.proofs.Ending.{agree_self}
 use Rattle.evaluator.proofs.Steps.{free_up, kept_refl, ends_eq, gives_eq, stopped_eq, stopped_bind, few_cells}
@@ -109,7 +107,7 @@ wait_next {Cs} {C = C} {C₁ = C₁} {W₁ = W₁} {top} {y} {m} {n} {n₁} q on
       whole = b.whole ∙ ap (λ c. bind (bind c (λ z k₁. bind (rest k₁) (λ zs k₂. value (z :: zs) k₂))) (λ ys m₁. value (onto b.es ys) m₁)) u.is ∙ onto_more v b.es (rest n₁);
     }
 
-pub wait_stop : {Cs Ws C W : List ℕ} {top a : ℕ} {m n n₁ : Meter} {all : Out Objs} (q : ℕ) (one : Meter → Out Obj) (rest : Meter → Out Objs) → Waiting Cs Ws top m all C W q n (λ k. bind (one k) (λ z k₁. bind (rest k₁) (λ zs k₂. value (z :: zs) k₂))) → Stopped (one n) a n₁ → Stopped (bind all gathered) a n₁
+pub wait_stop : {Cs Ws C W : List ℕ} {top : ℕ} {m n : Meter} {s : Stopped} {all : Out Objs} (q : ℕ) (one : Meter → Out Obj) (rest : Meter → Out Objs) → Waiting Cs Ws top m all C W q n (λ k. bind (one k) (λ z k₁. bind (rest k₁) (λ zs k₂. value (z :: zs) k₂))) → Stops (one n) s → Stops (bind all gathered) s
 wait_stop q one rest b e = stopped_bind gathered (stopped_eq b.whole (stopped_bind (λ ys m₁. value (onto b.es ys) m₁) (stopped_bind (λ z k₁. bind (rest k₁) (λ zs k₂. value (z :: zs) k₂)) e)))
 
 -- ---- what waits is collected
@@ -123,16 +121,16 @@ gathered_by es q n e =
     let z : length_of (onto es nil) ≡ q = omega (arith, length_onto es nil) in
     ap (λ (c : ℕ). ask_cells c n (λ m₁. value (seq (onto es nil)) m₁)) z ∙ cells_asked q n (λ m₁. value (seq (onto es nil)) m₁)
 
-pub collect_full : {C W : List ℕ} {top q : ℕ} {n k : Meter} {ch : Charge} → ch ≡ cells_charge q n → ch ≡ Spent k → Collected C W top q n (Stop 24 k) C
-collect_full {q = q} {n} {k} a b = record {
+pub collect_full : {C W : List ℕ} {top q : ℕ} {n : Meter} {s : Stopped} → Err s ≡ cells_charge q n → Collected C W top q n (Err s) C
+collect_full {q = q} {n} {s} a = record {
   sinks = tt;
   taken = tt;
-  means = λ es l h r. gives_eq (gathered_by es q n l ∙ ap (λ c. on_charge c no_cell (λ m₁. value (seq (onto es nil)) m₁)) (sym a ∙ b)) (gives_spent refl (agree_self k));
+  means = λ es l h r. gives_eq (gathered_by es q n l ∙ ap (λ c. on_charge c no_cell (λ m₁. value (seq (onto es nil)) m₁)) (sym a)) (gives_spent (sym (ap (λ u. u.why) (cells_spent q n (sym a)).1)) (agree_self s.meter));
 }
 
-pub collect_made : {C W C₁ : List ℕ} {top q p : ℕ} {v : Val} {n k : Meter} {ch : Charge} → p ≡ free C n % 4294967296 → ch ≡ cells_charge q n → ch ≡ Granted k → Gathered C W top q p v C₁ → length C₁ ≡ length C → Collected C W top q n (Done v k) C₁
-collect_made {C} {C₁ = C₁} {q = q} {p} {v} {n} {k} pe a b g lc =
-    let c = cells_granted q n (sym a ∙ b) in
+pub collect_made : {C W C₁ : List ℕ} {top q p : ℕ} {v : Val} {n k : Meter} → p ≡ free C n % 4294967296 → Ok k ≡ cells_charge q n → Gathered C W top q p v C₁ → length C₁ ≡ length C → Collected C W top q n (reached v k) C₁
+collect_made {C} {C₁ = C₁} {q = q} {p} {v} {n} {k} pe a g lc =
+    let c = cells_granted q n (sym a) in
     record {
       sinks = (omega (arith, c.steps), omega (arith, c.names));
       taken = c.cells;
@@ -141,16 +139,16 @@ collect_made {C} {C₁ = C₁} {q = q} {p} {v} {n} {k} pe a b g lc =
           let f = few_cells r in
           let z = g.means es l (rw w (h (omega (arith, c.cells)))) (omega (arith, f.0, r.small, c.cells)) (omega (arith, free_room C n r, c.cells)) in
           let s : p + q ≡ free C₁ k = omega (arith, c.cells, r.fits) in
-          gives_eq (gathered_by es q n l ∙ ap (λ c. on_charge c no_cell (λ m₁. value (seq (onto es nil)) m₁)) (sym a ∙ b))
+          gives_eq (gathered_by es q n l ∙ ap (λ c. on_charge c no_cell (λ m₁. value (seq (onto es nil)) m₁)) (sym a))
           (gives_value (record { rep = rw s at z.0; same = rw w at z.1; room = record { fits = omega (arith, r.fits, c.cells); small = omega (arith, r.small) }; fewer = omega (arith, c.cells); long = lc }));
     }
 
 -- what `collect` does ends it
 collect_ends : {Cs Ws C W C₁ : List ℕ} {top : ℕ} {m : Meter} {e : Out Obj} (n : Meter) (q : ℕ) (r : Ended) → Same Cs C (free Cs m) → n.cells ≤ m.cells → length C ≡ length Cs → length W ≡ 16384 → RingKept Ws W top (m.cells + q) n.cells → Taken r n q → Gives C n C₁ e r → Ends Cs Ws top m e C₁ W r
-collect_ends n q (Stop a k) s l lc w kp t (gives_bottom z g) = ends_stop (fell refl z g)
-collect_ends n q (Stop a k) s l lc w kp t (gives_spent z g) = ends_stop (ran_out refl z g)
-collect_ends {Cs} {C = C} {m = m} n q (Done v k) s l lc w kp t (gives_value {x = x} g) =
-    ends_done {v = v} {m' = k} (record {
+collect_ends n q (Err a) s l lc w kp t (gives_bottom z g) = ends_stop (fell refl z g)
+collect_ends n q (Err a) s l lc w kp t (gives_spent z g) = ends_stop (ran_out refl z g)
+collect_ends {Cs} {C = C} {m = m} n q (Ok v) s l lc w kp t (gives_value {x = x} g) =
+    ends_done (record {
       obj = x;
       is = refl;
       made = record { rep = g.rep; same = same_trans (free_up Cs C m n l lc) s g.same; room = g.room; fewer = omega (arith, g.fewer); long = g.long ∙ lc };

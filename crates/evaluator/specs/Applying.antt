@@ -1,5 +1,5 @@
 -- What each function of the evaluator answers, by the definition of the metered run.
-use Rattle.std.specs.Prelude.{ℕ, zero, suc, ◌+◌, ◌-◌, ◌*◌, ◌≤◌, ◌<◌, ◌≡◌, List, [], ◌∷◌, length, get_or}
+use Rattle.std.specs.Prelude.{ℕ, zero, suc, ◌+◌, ◌-◌, ◌*◌, ◌≤◌, ◌<◌, ◌≡◌, true, false, List, [], ◌∷◌, length, get_or, Result, Ok, Err}
 use Rattle.std.proofs.Math.Option.{Option, some, none}
 use Rattle.language.specs.Objects.{Obj, seq, Objs, nil, ◌::◌, length_of, truth_of, is_T, is_F, nth_obj}
 use Rattle.language.specs.Forms.{Form, Forms, Prog, count, main_form, select, select_right}
@@ -12,15 +12,15 @@ use Rattle.language.specs.declared.Meter.{Meter}
 use Rattle.language.specs.declared.Val.{Val}
 use Rattle.cells.specs.Cells.{Rep, Same, Room, free}
 use Rattle.cells.specs.Parts.{held_at, hold_at, onto, Held, Nth}
-use Rattle.primitives.specs.declared.Ended.{Ended}
-use Rattle.primitives.specs.declared.Ended.TheVariants.{Done, Stop}
-use Rattle.primitives.specs.Ends.{Gives, Leaf, Sinks}
+use Rattle.language.specs.Charging.{stopped}
+use Rattle.language.specs.declared.stops.Stop.TheVariants.{Bottom}
+use Rattle.language.specs.declared.stops.Stopped.{Stopped}
+use Rattle.primitives.specs.Ends.{Ended, reached, Gives, Leaf, Sinks}
 use Rattle.primitives.specs.Leaves.{Coded}
 use Rattle.tables.specs.Tables.{field}
 use Rattle.evaluator.specs.declared.waiting.Asked.{Asked}
-use Rattle.evaluator.specs.declared.waiting.Asked.TheVariants.{Says, Stop as AskStop}
 use Rattle.linker.specs.Linked.{FormAt, PartsAt, UpTo, DefAt, link_at, constant_at}
-use Rattle.evaluator.specs.Ring.{Finished, Stopped, Ends}
+use Rattle.evaluator.specs.Ring.{Finished, Stops, Ends}
 
 -- a program, the root of each name's body (and one; 0 if undefined), and the cells with its constants
 pub record Setting : Type 0 where
@@ -54,16 +54,16 @@ pub record Given (F : List ℕ) (S : Setting) (k : ℕ) (C W : List ℕ) (m : Me
 
 -- the steps fall, and as many names may open as before
 abbrev pub Falls : Ended → Meter → Type 0
-Falls (Done v m') m = (m'.steps < m.steps) × (m'.names ≡ m.names)
-Falls (Stop n m') m = Unit {0}
+Falls (Ok r) m = (r.meter.steps < m.steps) × (r.meter.names ≡ m.names)
+Falls (Err s) m = Unit {0}
 
 -- what is done at a form with no parts, by its kind: a word, a selector or a constant; any other kind gives bottom
 pub data Alone (F C : List ℕ) (i : ℕ) (v : Val) (m : Meter) : ℕ → Ended → List ℕ → Type 0 where
   a_word : {r : Ended} {C' : List ℕ} → Coded C v m (field F i 2) r C' → Alone F C i v m 1 r C'
   a_select : {r : Ended} → Leaf C v m (select (field F i 2)) r C → Alone F C i v m 2 r C
   a_select_right : {r : Ended} → Leaf C v m (select_right (field F i 2)) r C → Alone F C i v m 3 r C
-  a_constant : Alone F C i v m 12 (Done (constant_at F i) m) C
-  no_kind : {κ : ℕ} → (κ ≡ 1 → ⊥) → (κ ≡ 2 → ⊥) → (κ ≡ 3 → ⊥) → (κ ≡ 12 → ⊥) → Alone F C i v m κ (Stop 21 m) C
+  a_constant : Alone F C i v m 12 (reached (constant_at F i) m) C
+  no_kind : {κ : ℕ} → (κ ≡ 1 → ⊥) → (κ ≡ 2 → ⊥) → (κ ≡ 3 → ⊥) → (κ ≡ 12 → ⊥) → Alone F C i v m κ (stopped Bottom m) C
 
 -- one application of the form at i
 pub record Applied (F C W : List ℕ) (top i : ℕ) (v : Val) (m : Meter) (r : Ended) (C' W' : List ℕ) : Type 0 where
@@ -96,8 +96,8 @@ on_pair_of ap f a b m = ask_cells 2 m (λ m₁. ap f (pair a b) m₁)
 
 -- a value leaves at least c cells fewer
 abbrev pub Spends : Ended → Meter → ℕ → Type 0
-Spends (Done v m') m c = m'.cells + c ≤ m.cells
-Spends (Stop n m') m c = Unit {0}
+Spends (Ok r) m c = r.meter.cells + c ≤ m.cells
+Spends (Err s) m c = Unit {0}
 
 -- one pair of an insert: the value that waits at top, if there are cells for it, and v; then the form at g
 pub record Folded (F C W : List ℕ) (top g : ℕ) (v : Val) (m : Meter) (r : Ended) (C' W' : List ℕ) : Type 0 where
@@ -123,22 +123,22 @@ pub record Bound (F C W : List ℕ) (top g : ℕ) (a v : Val) (m : Meter) (r : E
   pub sinks : Sinks r m
   pub means : (S : Setting) (k : ℕ) (f : Form) (y x : Obj) → At F S g f → Rep S.cells S.few a y → Given F S k C W m v x → Ends C W top m (on_pair_of (by S k) f y x m) C' W' r
 
-abbrev pub Lessens : Asked → Meter → Type 0
-Lessens (Says b k) m = (k.steps < m.steps) × (k.names ≡ m.names)
-Lessens (AskStop n k) m = Unit {0}
+abbrev pub Lessens : Result Asked Stopped → Meter → Type 0
+Lessens (Ok q) m = (q.meter.steps < m.steps) × (q.meter.names ≡ m.names)
+Lessens (Err s) m = Unit {0}
 
 -- what a question says, where e is the outcome of its application
-pub data QuestionSays (C W : List ℕ) (top : ℕ) (m : Meter) (e : Out Obj) (C' W' : List ℕ) : Asked → Type 0 where
-  says_yes : {v : Val} {k : Meter} (u : Finished C W top m e v k C' W') → truth_of u.obj ≡ is_T → QuestionSays C W top m e C' W' (Says 1 k)
-  says_no : {v : Val} {k : Meter} (u : Finished C W top m e v k C' W') → truth_of u.obj ≡ is_F → QuestionSays C W top m e C' W' (Says 0 k)
-  says_stop : {n : ℕ} {k : Meter} → ((on_T on_F : Meter → Out Obj) → Stopped (bind e (λ b m₁. decide b m₁ on_T on_F)) n k) → QuestionSays C W top m e C' W' (AskStop n k)
+pub data QuestionSays (C W : List ℕ) (top : ℕ) (m : Meter) (e : Out Obj) (C' W' : List ℕ) : Result Asked Stopped → Type 0 where
+  says_yes : {v : Val} {q : Asked} (u : Finished C W top m e v q.meter C' W') → truth_of u.obj ≡ is_T → q.yes ≡ true → QuestionSays C W top m e C' W' (Ok q)
+  says_no : {v : Val} {q : Asked} (u : Finished C W top m e v q.meter C' W') → truth_of u.obj ≡ is_F → q.yes ≡ false → QuestionSays C W top m e C' W' (Ok q)
+  says_stop : {s : Stopped} → ((on_T on_F : Meter → Out Obj) → Stops (bind e (λ b m₁. decide b m₁ on_T on_F)) s) → QuestionSays C W top m e C' W' (Err s)
 
 -- the question at h
-pub record Questioned (F C W : List ℕ) (top h : ℕ) (v : Val) (m : Meter) (r : Asked) (C' W' : List ℕ) : Type 0 where
+pub record Questioned (F C W : List ℕ) (top h : ℕ) (v : Val) (m : Meter) (r : Result Asked Stopped) (C' W' : List ℕ) : Type 0 where
   pub falls : Lessens r m
   pub means : (S : Setting) (k : ℕ) (p : Form) (x : Obj) → At F S h p → Given F S k C W m v x → QuestionSays C W top m (by S k p x m) C' W' r
 
--- which form a condition chooses, whose question is at h and says b
+-- which form a condition chooses, whose question is at h, where it says b
 pub record Branch (F : List ℕ) (h b j : ℕ) : Type 0 where
   pub on_true : (b ≡ 0 → ⊥) → j ≡ link_at F h
   pub on_false : b ≡ 0 → j ≡ link_at F (link_at F h)
@@ -163,8 +163,8 @@ pub record NameApplied (F C W : List ℕ) (top d : ℕ) (v : Val) (m : Meter) (r
   pub means : (S : Setting) (k : ℕ) (w : List ℕ) (x : Obj) → IsName w → d ≡ S.root w → Given F S k C W m v x → Ends C W top m (name_by (by S k) (lookup w S.prog) x m) C' W' r
 
 abbrev pub PutAt : Ended → List ℕ → List ℕ → ℕ → Type 0
-PutAt (Done v m') W W' t = W' ≡ hold_at W t v
-PutAt (Stop n m') W W' t = Unit {0}
+PutAt (Ok r) W W' t = W' ≡ hold_at W t r.value
+PutAt (Err s) W W' t = Unit {0}
 
 -- an application whose value then waits at t
 pub record Slotted (F C W : List ℕ) (t i : ℕ) (v : Val) (m : Meter) (r : Ended) (C' W' : List ℕ) : Type 0 where
@@ -173,8 +173,8 @@ pub record Slotted (F C W : List ℕ) (t i : ℕ) (v : Val) (m : Meter) (r : End
   pub put : PutAt r mid W' t
 
 abbrev pub Taken : Ended → Meter → ℕ → Type 0
-Taken (Done v m') m q = m'.cells + q ≡ m.cells
-Taken (Stop n m') m q = Unit {0}
+Taken (Ok r) m q = r.meter.cells + q ≡ m.cells
+Taken (Err s) m q = Unit {0}
 
 -- the q values that wait from top on, made a sequence with q cells
 pub record Collected (C W : List ℕ) (top q : ℕ) (n : Meter) (r : Ended) (C' : List ℕ) : Type 0 where

@@ -1,15 +1,16 @@
 -- What an application leaves of the cells and of the ring of waiting values.
-use Rattle.std.specs.Prelude.{ℕ, ◌+◌, ◌-◌, ◌≤◌, ◌≡◌, List, length}
+use Rattle.std.specs.Prelude.{ℕ, ◌+◌, ◌-◌, ◌≤◌, ◌≡◌, List, length, Ok, Err}
 use Rattle.language.specs.Numbers.{cell_limit, cell_table_size}
 use Rattle.language.specs.Objects.{Obj}
 use Rattle.language.specs.Evaluation.{Out, value, bottom, spent, Spent}
-use Rattle.language.specs.Answers.{spent_number}
+use Rattle.language.specs.Stops.{stop_of}
 use Rattle.language.specs.declared.Meter.{Meter}
 use Rattle.language.specs.declared.Val.{Val}
 use Rattle.cells.specs.Parts.{held_at}
-use Rattle.primitives.specs.declared.Ended.{Ended}
-use Rattle.primitives.specs.declared.Ended.TheVariants.{Done, Stop}
-use Rattle.primitives.specs.Ends.{Made, Agree}
+use Rattle.language.specs.declared.stops.Stop.TheVariants.{Bottom}
+use Rattle.language.specs.declared.stops.Stopped.{Stopped}
+use Rattle.primitives.specs.declared.Reached.{Reached}
+use Rattle.primitives.specs.Ends.{Ended, Made, Agree}
 
 -- A waiting value at a distance d below the top is kept, unless with the cells that were made, a less b, it is more than 4,096:
 -- then the construction or insert that it waits for can't complete.
@@ -25,10 +26,10 @@ pub record Finished (C W : List ℕ) (top : ℕ) (m : Meter) (e : Out Obj) (v : 
   pub kept : RingKept W W' top m.cells m'.cells
 
 -- bottom or a spent budget, with the same steps and cells left
-pub data Stopped {A : Type 0} (e : Out A) (n : ℕ) (m' : Meter) : Type 0 where
-  fell : {m : Meter} → e ≡ bottom m → n ≡ 21 → Agree m m' → Stopped e n m'
-  ran_out : {w : Spent} {m : Meter} → e ≡ spent w m → n ≡ spent_number w → Agree m m' → Stopped e n m'
+pub data Stops {A : Type 0} (e : Out A) (s : Stopped) : Type 0 where
+  fell : {m : Meter} → e ≡ bottom m → s.why ≡ Bottom → Agree m s.meter → Stops e s
+  ran_out : {w : Spent} {m : Meter} → e ≡ spent w m → s.why ≡ stop_of w → Agree m s.meter → Stops e s
 
 pub data Ends (C W : List ℕ) (top : ℕ) (m : Meter) (e : Out Obj) (C' W' : List ℕ) : Ended → Type 0 where
-  ends_done : {v : Val} {m' : Meter} → Finished C W top m e v m' C' W' → Ends C W top m e C' W' (Done v m')
-  ends_stop : {n : ℕ} {m' : Meter} → Stopped e n m' → Ends C W top m e C' W' (Stop n m')
+  ends_done : {r : Reached} → Finished C W top m e r.value r.meter C' W' → Ends C W top m e C' W' (Ok r)
+  ends_stop : {s : Stopped} → Stops e s → Ends C W top m e C' W' (Err s)

@@ -5,11 +5,10 @@ ghost use Rattle.evaluator.specs.Applying.{Applied, Chained, Slotted, Constructe
 use crate::alone::leaf;
 use crate::records::{arity, branch, constant, inner, kind, low, next};
 use crate::waiting::{Asked, RING_SIZE, collect, place, spread};
-use language::{Charge, FORM_TABLE_SIZE, Meter, Val};
-use primitives::{Ended, truth_of};
+use language::{FORM_TABLE_SIZE, Meter, Stop, Stopped, Val};
+use primitives::{Reached, truth_of};
 
-// One application of the form at i to v. A value lent as two numbers and a meter lent as three take less of the stack, and so
-// does an answer that is taken apart at once.
+// One application of the form at i to v. A value lent as two numbers and a meter lent as three take less of the stack.
 #[cycle(application)]
 pub fn apply(
     f: &[u32; FORM_TABLE_SIZE],
@@ -19,13 +18,10 @@ pub fn apply(
     i: u32,
     v: Val,
     m: Meter,
-) -> Ended
+) -> Result<Reached, Stopped>
     ensures { Applied f.now c.old w.old top i v m result c.new w.new }
 {
-    match step(f, c, w, top, i, v.tag, v.word, m.steps, m.names, m.cells) {
-        Ended::Done(y, k) => Ended::Done(y, k),
-        Ended::Stop(a, k) => Ended::Stop(a, k),
-    }
+    step(f, c, w, top, i, v.tag, v.word, m.steps, m.names, m.cells)
 }
 
 // One application of the form at i, by its kind.
@@ -41,22 +37,16 @@ pub fn step(
     steps: u32,
     names: u32,
     cells: u32,
-) -> Ended
+) -> Result<Reached, Stopped>
     ensures { Applied f.now c.old w.old top i (record { tag = tag; word = word }) (record { steps = steps; names = names; cells = cells }) result c.new w.new }
 {
-    let v = Val {
-        tag: tag,
-        word: word,
-    };
+    let v = Val { tag, word };
     let m = Meter {
-        steps: steps,
-        names: names,
-        cells: cells,
+        steps,
+        names,
+        cells,
     };
-    let k = match m.charge_step() {
-        Charge::Spent(k) => return Ended::Stop(language::STEPS_SPENT, k),
-        Charge::Granted(k) => k,
-    };
+    let k = m.charge_step()?;
     let h = inner(i);
     let shape = kind(f, i);
     match shape {
@@ -83,23 +73,16 @@ pub fn chain(
     last: u32,
     v: Val,
     m: Meter,
-) -> Ended
+) -> Result<Reached, Stopped>
     ensures { Chained f.now c.old w.old top last v m result c.new w.new }
 {
     let mut j = last;
-    let mut x = v;
-    let mut n = m;
+    let mut end = Reached { value: v, meter: m };
     while j != 0 {
-        match apply(f, c, w, top, j, x, n) {
-            Ended::Done(y, k) => {
-                x = y;
-                n = k;
-            }
-            Ended::Stop(a, k) => return Ended::Stop(a, k),
-        }
+        end = apply(f, c, w, top, j, end.value, end.meter)?;
         j = next(f, j);
     }
-    Ended::Done(x, n)
+    Ok(end)
 }
 
 // One application of the form at i, whose value then waits at top.
@@ -112,16 +95,12 @@ pub fn slot(
     i: u32,
     v: Val,
     m: Meter,
-) -> Ended
+) -> Result<Reached, Stopped>
     ensures { Slotted f.now c.old w.old top i v m result c.new w.new }
 {
-    match apply(f, c, w, top, i, v, m) {
-        Ended::Done(y, k) => {
-            cells::hold(w, top as usize, y);
-            Ended::Done(y, k)
-        }
-        Ended::Stop(a, k) => Ended::Stop(a, k),
-    }
+    let end = apply(f, c, w, top, i, v, m)?;
+    cells::hold(w, top as usize, end.value);
+    Ok(end)
 }
 
 // The many parts of a construction from the one at h on, the first first; then a cell for each.
@@ -135,20 +114,15 @@ pub fn construct(
     many: u32,
     v: Val,
     m: Meter,
-) -> Ended
+) -> Result<Reached, Stopped>
     ensures { Constructed f.now c.old w.old top h many v m result c.new w.new }
 {
     let mut j = h;
-    let mut q: u32 = 0;
     let mut n = m;
-    while q < many {
+    for q in 0..many {
         let t = place(top, q);
-        match slot(f, c, w, t, j, v, n) {
-            Ended::Done(_, k) => n = k,
-            Ended::Stop(a, k) => return Ended::Stop(a, k),
-        }
+        n = slot(f, c, w, t, j, v, n)?.meter;
         j = next(f, j);
-        q += 1;
     }
     collect(c, w, top, many, n)
 }
@@ -163,25 +137,23 @@ pub fn each(
     g: u32,
     v: Val,
     m: Meter,
-) -> Ended
+) -> Result<Reached, Stopped>
     ensures { Mapped f.now c.old w.old top g v m result c.new w.new }
 {
     if v.tag != language::SEQUENCE {
-        return Ended::Stop(language::BOTTOM, m);
+        return Err(Stopped {
+            why: Stop::Bottom,
+            meter: m,
+        });
     }
     let many = cells::size(v);
     let mut s = v;
-    let mut q: u32 = 0;
     let mut n = m;
-    while q < many {
+    for q in 0..many {
         let t = place(top, q);
         let x = cells::head(c, s);
-        match slot(f, c, w, t, g, x, n) {
-            Ended::Done(_, k) => n = k,
-            Ended::Stop(a, k) => return Ended::Stop(a, k),
-        }
+        n = slot(f, c, w, t, g, x, n)?.meter;
         s = cells::tail(c, s);
-        q += 1;
     }
     collect(c, w, top, many, n)
 }
@@ -196,18 +168,14 @@ pub fn fold(
     g: u32,
     v: Val,
     m: Meter,
-) -> Ended
+) -> Result<Reached, Stopped>
     ensures { Folded f.now c.old w.old top g v m result c.new w.new }
 {
     let p = cells::free_cell(c, m);
-    match m.charge_cells(2) {
-        Charge::Spent(k) => Ended::Stop(language::CELLS_SPENT, k),
-        Charge::Granted(k) => {
-            let x = cells::held(w, top as usize);
-            let y = cells::pair(c, p, x, v);
-            apply(f, c, w, top, g, y, k)
-        }
-    }
+    let k = m.charge_cells(2)?;
+    let x = cells::held(w, top as usize);
+    let y = cells::pair(c, p, x, v);
+    apply(f, c, w, top, g, y, k)
 }
 
 // The form at g between the `many` values that wait from top on and v, from the right.
@@ -221,24 +189,15 @@ pub fn between(
     many: u32,
     v: Val,
     m: Meter,
-) -> Ended
+) -> Result<Reached, Stopped>
     ensures { Between f.now c.old w.old top g many v m result c.new w.new }
 {
-    let mut q = many;
-    let mut y = v;
-    let mut n = m;
-    while 0 < q {
-        q -= 1;
+    let mut end = Reached { value: v, meter: m };
+    for q in (0..many).rev() {
         let t = place(top, q);
-        match fold(f, c, w, t, g, y, n) {
-            Ended::Done(z, k) => {
-                y = z;
-                n = k;
-            }
-            Ended::Stop(a, k) => return Ended::Stop(a, k),
-        }
+        end = fold(f, c, w, t, g, end.value, end.meter)?;
     }
-    Ended::Done(y, n)
+    Ok(end)
 }
 
 // The form at g between the places of v, from the right. All but the last wait.
@@ -251,15 +210,21 @@ pub fn insert(
     g: u32,
     v: Val,
     m: Meter,
-) -> Ended
+) -> Result<Reached, Stopped>
     ensures { Inserted f.now c.old w.old top g v m result c.new w.new }
 {
     if v.tag != language::SEQUENCE {
-        return Ended::Stop(language::BOTTOM, m);
+        return Err(Stopped {
+            why: Stop::Bottom,
+            meter: m,
+        });
     }
     let many = cells::size(v);
     if many == 0 {
-        return Ended::Stop(language::BOTTOM, m);
+        return Err(Stopped {
+            why: Stop::Bottom,
+            meter: m,
+        });
     }
     let y = spread(c, w, top, many - 1, v);
     between(f, c, w, top, g, many - 1, y, m)
@@ -275,21 +240,19 @@ pub fn ask(
     h: u32,
     v: Val,
     m: Meter,
-) -> Asked
+) -> Result<Asked, Stopped>
     ensures { Questioned f.now c.old w.old top h v m result c.new w.new }
 {
-    match apply(f, c, w, top, h, v, m) {
-        Ended::Stop(a, k) => Asked::Stop(a, k),
-        Ended::Done(y, k) => {
-            let b = truth_of(y);
-            if b == 1 {
-                return Asked::Says(1, k);
-            }
-            if b == 0 {
-                return Asked::Says(0, k);
-            }
-            Asked::Stop(language::BOTTOM, k)
-        }
+    let end = apply(f, c, w, top, h, v, m)?;
+    match truth_of(end.value) {
+        Some(yes) => Ok(Asked {
+            yes,
+            meter: end.meter,
+        }),
+        None => Err(Stopped {
+            why: Stop::Bottom,
+            meter: end.meter,
+        }),
     }
 }
 
@@ -303,28 +266,20 @@ pub fn repeat(
     h: u32,
     v: Val,
     m: Meter,
-) -> Ended
+) -> Result<Reached, Stopped>
     ensures { Repeated f.now c.old w.old top h v m result c.new w.new }
 {
     let g = next(f, h);
-    let mut x = v;
-    let mut n = m;
+    let mut end = Reached { value: v, meter: m };
     loop {
-        match ask(f, c, w, top, h, x, n) {
-            Asked::Stop(a, k) => return Ended::Stop(a, k),
-            Asked::Says(b, k) => {
-                if b == 0 {
-                    return Ended::Done(x, k);
-                }
-                match apply(f, c, w, top, g, x, k) {
-                    Ended::Stop(a, l) => return Ended::Stop(a, l),
-                    Ended::Done(z, l) => {
-                        x = z;
-                        n = l;
-                    }
-                }
-            }
+        let said = ask(f, c, w, top, h, end.value, end.meter)?;
+        if !said.yes {
+            return Ok(Reached {
+                value: end.value,
+                meter: said.meter,
+            });
         }
+        end = apply(f, c, w, top, g, end.value, said.meter)?;
     }
 }
 
@@ -339,17 +294,13 @@ pub fn bu(
     a: Val,
     v: Val,
     m: Meter,
-) -> Ended
+) -> Result<Reached, Stopped>
     ensures { Bound f.now c.old w.old top g a v m result c.new w.new }
 {
     let p = cells::free_cell(c, m);
-    match m.charge_cells(2) {
-        Charge::Spent(k) => Ended::Stop(language::CELLS_SPENT, k),
-        Charge::Granted(k) => {
-            let y = cells::pair(c, p, a, v);
-            apply(f, c, w, top, g, y, k)
-        }
-    }
+    let k = m.charge_cells(2)?;
+    let y = cells::pair(c, p, a, v);
+    apply(f, c, w, top, g, y, k)
 }
 
 // A condition: the question at h, then the first form behind it on T, the second on F.
@@ -362,13 +313,12 @@ pub fn condition(
     h: u32,
     v: Val,
     m: Meter,
-) -> Ended
+) -> Result<Reached, Stopped>
     ensures { Chosen f.now c.old w.old top h v m result c.new w.new }
 {
-    match ask(f, c, w, top, h, v, m) {
-        Asked::Stop(a, k) => Ended::Stop(a, k),
-        Asked::Says(b, k) => apply(f, c, w, top, branch(f, h, b), v, k),
-    }
+    let said = ask(f, c, w, top, h, v, m)?;
+    let g = branch(f, h, u32::from(said.yes));
+    apply(f, c, w, top, g, v, said.meter)
 }
 
 // The body of a name, whose record and one is d, with one more name open; 0 if it is undefined.
@@ -381,20 +331,20 @@ pub fn name(
     d: u32,
     v: Val,
     m: Meter,
-) -> Ended
+) -> Result<Reached, Stopped>
     ensures { NameApplied f.now c.old w.old top d v m result c.new w.new }
 {
     if d == 0 {
-        return Ended::Stop(language::BOTTOM, m);
+        return Err(Stopped {
+            why: Stop::Bottom,
+            meter: m,
+        });
     }
-    match m.open_name() {
-        Charge::Spent(k) => Ended::Stop(language::NAMES_SPENT, k),
-        Charge::Granted(k) => match apply(f, c, w, top, d - 1, v, k) {
-            Ended::Stop(a, l) => Ended::Stop(a, l),
-            Ended::Done(y, l) => {
-                let back = l.close_name();
-                Ended::Done(y, back)
-            }
-        },
-    }
+    let k = m.open_name()?;
+    let end = apply(f, c, w, top, d - 1, v, k)?;
+    let back = end.meter.close_name();
+    Ok(Reached {
+        value: end.value,
+        meter: back,
+    })
 }

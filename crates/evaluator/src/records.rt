@@ -10,17 +10,10 @@ use language::{FORM_TABLE_SIZE, Val};
 pub fn kind(f: &[u32; FORM_TABLE_SIZE], i: u32) -> u32
     ensures { result ≡ linked_kind_at f.now i }
 {
-    let k = tables::at(f, i as usize * 4) % linker::KINDS;
-    if k < formtable::CONSTANT {
-        return k;
-    }
-    if k < formtable::BU {
-        return formtable::CONSTANT;
-    }
-    if k < formtable::KINDS_END {
-        formtable::BU
-    } else {
-        k
+    match tables::at(f, i as usize * 4) % linker::KINDS {
+        formtable::CONSTANT..formtable::BU => formtable::CONSTANT,
+        formtable::BU..formtable::KINDS_END => formtable::BU,
+        k => k,
     }
 }
 
@@ -44,7 +37,7 @@ pub fn branch(f: &[u32; FORM_TABLE_SIZE], h: u32, b: u32) -> u32
 pub fn inner(i: u32) -> u32
     ensures { result ≡ (i + 1) % 4294967296 }
 {
-    ((i as u64 + 1) % 4294967296) as u32
+    i.wrapping_add(1)
 }
 
 pub fn arity(f: &[u32; FORM_TABLE_SIZE], i: u32) -> u32
@@ -63,10 +56,10 @@ pub fn low(f: &[u32; FORM_TABLE_SIZE], i: u32) -> u32
 pub fn constant(f: &[u32; FORM_TABLE_SIZE], i: u32) -> Val
     ensures { result ≡ constant_at f.now i }
 {
-    let lo = tables::at(f, i as usize * 4 + 2) as u64;
-    let hi = tables::at(f, i as usize * 4 + 3) as u64;
+    let lo = tables::at(f, i as usize * 4 + 2);
+    let hi = tables::at(f, i as usize * 4 + 3);
     Val {
         tag: tables::at(f, i as usize * 4) % language::TAGS,
-        word: lo + 4294967296 * hi,
+        word: tables::word(lo, hi),
     }
 }

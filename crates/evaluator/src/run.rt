@@ -5,17 +5,20 @@ ghost use Rattle.evaluator.specs.Applying.{Ran, FormsCopied};
 
 use crate::cycle::name;
 use crate::waiting::RING_SIZE;
-use language::{Charge, FORM_TABLE_SIZE, Meter, Val};
-use primitives::Ended;
+use language::{FORM_TABLE_SIZE, Meter, Stopped, Val};
+use primitives::Reached;
 
 // Applies main to v. The record of main's body, and one, is root; 0 if main is undefined.
-pub fn evaluate(forms: &[u32], c: &mut [u32], root: u32, v: Val, m: Meter) -> Ended
+pub fn evaluate(
+    forms: &[u32],
+    c: &mut [u32],
+    root: u32,
+    v: Val,
+    m: Meter,
+) -> Result<Reached, Stopped>
     ensures { Ran forms.now c.old root v m result c.new }
 {
-    let k = match m.charge_step() {
-        Charge::Spent(k) => return Ended::Stop(language::STEPS_SPENT, k),
-        Charge::Granted(k) => k,
-    };
+    let k = m.charge_step()?;
     let f = copied(forms);
     let mut w = ring();
     name(&f, c, &mut w, 0, root, v, k)
@@ -26,10 +29,8 @@ fn copied(forms: &[u32]) -> [u32; FORM_TABLE_SIZE]
     ensures { FormsCopied forms.now result }
 {
     let mut f = empty();
-    let mut i: usize = 0;
-    while i < FORM_TABLE_SIZE {
+    for i in 0..FORM_TABLE_SIZE {
         f[i] = tables::at(forms, i);
-        i += 1;
     }
     f
 }

@@ -2,7 +2,7 @@
 // budgets, the program and the object. Then the same of data/inputs.cases, where inputs of every shape stand.
 #![tactic(auto)]
 
-ghost use Rattle.std.specs.Prelude.{◌≤◌, length, IfOk};
+ghost use Rattle.std.specs.Prelude.{length, IfOk};
 ghost use Rattle.examples.specs.Ahead.{Further};
 
 mod inputs;
@@ -10,46 +10,40 @@ mod printing;
 
 use std::{fs, io};
 
-// The place behind the line that starts at `from`.
-fn behind_line(s: &[u8], from: usize) -> usize
-    requires { from ≤ length s.now }
-    ensures { Further from (length s.now) result }
+// The place behind the text's first line.
+fn behind_line(s: &[u8]) -> usize
+    ensures { Further 0 (length s.now) result }
 {
-    let mut i = from;
-    while i < s.len() {
-        if s[i] == b'\n' {
-            return i + 1;
-        }
-        i += 1;
-    }
-    i
+    s.iter()
+        .position(|b| *b == b'\n')
+        .map_or(s.len(), |i| i + 1)
 }
 
-// Prints the example that starts at `from`, and gives the place behind it.
-fn print_example(rt: &HostRuntime, s: &[u8], from: usize) -> io::Result<usize>
-    requires { from ≤ length s.now }
-    ensures { IfOk result (λ end. Further from (length s.now) end) }
+// Prints the text's first example, and gives the place behind it.
+fn print_example(rt: &HostRuntime, s: &[u8]) -> io::Result<usize>
+    ensures { IfOk result (λ end. Further 0 (length s.now) end) }
 {
-    let budgets = behind_line(s, from);
-    let program = behind_line(s, budgets);
-    let object = behind_line(s, program);
-    let end = behind_line(s, object);
-    printing::print(rt, &s[from..budgets])?;
+    let budgets = behind_line(s);
+    let program = budgets + behind_line(&s[budgets..]);
+    let object = program + behind_line(&s[program..]);
+    let end = object + behind_line(&s[object..]);
+    rt.write_all(&s[..budgets])?;
     printing::print_reply(rt, &s[budgets..end])?;
     Ok(end)
 }
 
 fn print_all(rt: &HostRuntime, s: &[u8]) -> io::Result<()> {
-    let mut at = 0;
-    while at < s.len() {
-        at = print_example(rt, s, at)?;
+    let mut rest = s;
+    while !rest.is_empty() {
+        let end = print_example(rt, rest)?;
+        rest = &rest[end..];
     }
     Ok(())
 }
 
 fn print_examples(rt: &HostRuntime, path: &str) -> io::Result<()> {
     let mut file = fs::open(rt, path)?;
-    let mut text = streams::large_buffer();
+    let mut text: [u8; 65536] = streams::filled(0);
     let n = streams::read_full(&mut file, &mut text)?;
     print_all(rt, &text[..n])
 }

@@ -1,12 +1,8 @@
 // What is printed of an input.
 use std::io;
 
-pub fn print(rt: &HostRuntime, text: &[u8]) -> io::Result<()> {
-    rt.write_all(text)
-}
-
 pub fn print_reply(rt: &HostRuntime, input: &[u8]) -> io::Result<()> {
     let mut out = replies::reply();
     let r = replies::answer_input(input, &mut out);
-    print(rt, &out[..r])
+    rt.write_all(&out[..r])
 }

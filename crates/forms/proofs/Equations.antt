@@ -12,10 +12,11 @@ use Rattle.language.specs.Tokens.{byte_at, place_from}
 use Rattle.language.specs.Judging.{refusal_of}
 use Rattle.language.specs.Reading.{Got, got, no, and_then, word_at, refused, mark, opens, after_test, after_part, after_parts, after_form, read_form, read_part, calls}
 use Rattle.theorems.proofs.Calls.{part_calls, form_calls, parts_calls, forms_calls}
+use Rattle.std.specs.Prelude.{Option, Some, None, Result, Ok, Err}
+use Rattle.language.specs.declared.refusals.RefusedText.{RefusedText}
+use Rattle.objects.proofs.Refused.{error_of, Refuses}
 use Rattle.forms.specs.declared.CommaRead.{CommaRead}
 use Rattle.forms.specs.declared.CommaRead.TheVariants as C
-use Rattle.forms.specs.declared.DotRead.{DotRead}
-use Rattle.forms.specs.declared.DotRead.TheVariants as D
 use Rattle.forms.specs.Readings.{Dotted, dot_read, no_dot, Separated, comma_read, bracket_read, neither_read}
 use Rattle.forms.specs.Readers.{object_at, part_at, form_at, parts_at, forms_at, plain_at, constant_read, prefix_form, prefix_at, construct_at, bound_at, bu_at, round_at, closed_at, while_at, both, branches_at, condition_at, is_opening, is_arrow}
 
@@ -143,49 +144,51 @@ module _ (s : List ℕ) (at room p b : ℕ) (l : at ≤ length s) (p-is : p ≡ 
   part_deep_is h z = part_once s at room l ∙ rw (byte, z, ← p-is) (deep (eqb b 91) (eqb b 37) (eqb b 47) (eqb b 64) (eqb b 123) (eqb b 40) (no 7 p) _ h)
 
 -- ---- behind a part
-module _ (s : List ℕ) (e : ℕ) {q : DotRead} (f : Form) (r : ℕ → Got Forms) where
-  pub one_part : Dotted s e q → q ≡ D.Nothing → after_part s f e r ≡ got f e
+module _ (s : List ℕ) (e : ℕ) {q : Option ℕ} (f : Form) (r : ℕ → Got Forms) where
+  pub one_part : Dotted s e q → q ≡ None → after_part s f e r ≡ got f e
   unfolding after_part
   one_part (dot_read h i) z = absurd (let y : ◌≡◌ {A = ℕ} 0 1 = cc in omega arith)
   one_part (no_dot h i) z = rw (ne_eqb (byte_at s (place_from s e)) 46 h)
 
-  pub last_part : Dotted s e q → q ≡ D.Nothing → after_parts s f e r ≡ got (f & stop) e
+  pub last_part : Dotted s e q → q ≡ None → after_parts s f e r ≡ got (f & stop) e
   unfolding after_parts
   last_part (dot_read h i) z = absurd (let y : ◌≡◌ {A = ℕ} 0 1 = cc in omega arith)
   last_part (no_dot h i) z = rw (ne_eqb (byte_at s (place_from s e)) 46 h)
 
-  pub more_parts : {a : ℕ} → Dotted s e q → q ≡ D.Dot a → after_part s f e r ≡ and_then (r a) (λ fs e. got (chain (f & fs)) e)
+  pub more_parts : {a : ℕ} → Dotted s e q → q ≡ Some a → after_part s f e r ≡ and_then (r a) (λ fs e. got (chain (f & fs)) e)
   unfolding after_part
   more_parts {a} (dot_read h i) z = let y : place_from s e + 1 ≡ a = cc in rw (h, y)
   more_parts (no_dot h i) z = absurd (let y : ◌≡◌ {A = ℕ} 0 1 = cc in omega arith)
 
-  pub next_part : {a : ℕ} → Dotted s e q → q ≡ D.Dot a → after_parts s f e r ≡ and_then (r a) (λ fs e. got (f & fs) e)
+  pub next_part : {a : ℕ} → Dotted s e q → q ≡ Some a → after_parts s f e r ≡ and_then (r a) (λ fs e. got (f & fs) e)
   unfolding after_parts
   next_part {a} (dot_read h i) z = let y : place_from s e + 1 ≡ a = cc in rw (h, y)
   next_part (no_dot h i) z = absurd (let y : ◌≡◌ {A = ℕ} 0 1 = cc in omega arith)
 
 -- ---- behind a form of `[ ]`
-module _ (s : List ℕ) (e : ℕ) {q : CommaRead} (f : Form) (r : ℕ → Got Forms) where
-  pub last_form : {a : ℕ} → Separated s e q → q ≡ C.Closed a → after_form s f e r ≡ got (f & stop) a
+module _ (s : List ℕ) (e : ℕ) {q : Result CommaRead RefusedText} (f : Form) (r : ℕ → Got Forms) where
+  pub last_form : {a : ℕ} → Separated s e q → q ≡ Ok (C.Closed a) → after_form s f e r ≡ got (f & stop) a
   unfolding after_form
   last_form (comma_read h i) z = absurd (let y : ◌≡◌ {A = ℕ} 0 1 = cc in omega arith)
   last_form {a} (bracket_read h i) z = let y : place_from s e + 1 ≡ a = cc in rw (h, y)
   last_form (neither_read g h i) z = absurd (let y : ◌≡◌ {A = ℕ} 0 1 = cc in omega arith)
 
-  pub next_form : {a : ℕ} → Separated s e q → q ≡ C.More a → after_form s f e r ≡ and_then (r a) (λ fs e. got (f & fs) e)
+  pub next_form : {a : ℕ} → Separated s e q → q ≡ Ok (C.More a) → after_form s f e r ≡ and_then (r a) (λ fs e. got (f & fs) e)
   unfolding after_form
   next_form {a} (comma_read h i) z = let y : place_from s e + 1 ≡ a = cc in rw (h, y)
   next_form (bracket_read h i) z = absurd (let y : ◌≡◌ {A = ℕ} 0 1 = cc in omega arith)
   next_form (neither_read g h i) z = absurd (let y : ◌≡◌ {A = ℕ} 0 1 = cc in omega arith)
 
-  pub other_form : {k p : ℕ} → Separated s e q → q ≡ C.No k p → after_form s f e r ≡ no k p
+  pub other_form : {o : RefusedText} → Separated s e q → q ≡ Err o → Refuses o (after_form s f e r)
   unfolding after_form refused
   other_form (comma_read h i) z = absurd (let y : ◌≡◌ {A = ℕ} 0 1 = cc in omega arith)
   other_form (bracket_read h i) z = absurd (let y : ◌≡◌ {A = ℕ} 0 1 = cc in omega arith)
-  other_form {k} {p} (neither_read g h i) z =
-      let y : place_from s e ≡ p = cc in
-      let w : refusal_of (word_at s (place_from s e)) ≡ k = cc in
-      rw (ne_eqb (byte_at s (place_from s e)) 44 g, ne_eqb (byte_at s (place_from s e)) 93 h, w, y)
+  other_form (neither_read g h i) z = record {
+    number = refusal_of (word_at s (place_from s e));
+    place = place_from s e;
+    is = rw (ne_eqb (byte_at s (place_from s e)) 44 g, ne_eqb (byte_at s (place_from s e)) 93 h);
+    told = error_of (sym z ∙ i);
+  }
 
 -- ---- behind a first form: p is the next place and b its byte
 module _ (s : List ℕ) (e p b : ℕ) (p-is : p ≡ place_from s e) (b-is : b ≡ byte_at s p) where

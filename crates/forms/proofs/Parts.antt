@@ -5,11 +5,10 @@ use mathlib.Core.Bool.{Bool, true, false, not, cond}
 use mathlib.Core.List.{List}
 use native.Mathlib.Omega.{arith}
 use lib.Dec.{eqb}
-use lib.IntN.{pos, negsuc}
 use lib.ListN.{length}
 use borrow.Author.Tests.{eq-eqb, ne_eqb, eqb-true, eqb-false}
 use Rattle.language.specs.declared.Val.{Val}
-use Rattle.language.specs.Objects.{Obj, int, symbol, seq}
+use Rattle.language.specs.Objects.{Obj}
 use Rattle.language.specs.Forms.{Form, insert, apply_all, bu, constant_cells}
 use Rattle.language.specs.Tokens.{byte_at}
 use Rattle.theorems.proofs.Refusals.{mark_within}
@@ -18,12 +17,13 @@ use Rattle.lexer.specs.Readings.{Skipped}
 use Rattle.cells.specs.Encoding.{val_of, cells_from}
 use Rattle.formtable.specs.Encoding.{low_of, high_of, encode_form, constants_from}
 use Rattle.objects.specs.declared.ObjectRead.{ObjectRead}
-use Rattle.objects.specs.declared.ObjectRead.TheVariants as O
+use Rattle.std.specs.Prelude.{Result, Ok, Err}
+use Rattle.language.specs.declared.refusals.RefusedText.{RefusedText}
+use Rattle.language.specs.Refusals.{refused_at}
+use Rattle.objects.proofs.Refused.{refuses_as}
 use Rattle.forms.specs.declared.Upto.{Upto}
-use Rattle.forms.specs.declared.FormRead.{FormRead}
-use Rattle.forms.specs.declared.FormRead.TheVariants as F
 use Rattle.forms.specs.Readers.{part_at, constant_read, prefix_form, prefix_at, construct_at, bound_at, bu_at, round_at, is_opening}
-use Rattle.forms.specs.Readings.{Ready, Run, Laid, ObjectMet, FormMet, form_read, form_refused, BuPut, PlainMet}
+use Rattle.forms.specs.Readings.{Ready, Run, Laid, ObjectMet, FormMet, form_read, form_refused, WordPut, PlainMet}
 use Rattle.forms.proofs.Laying.{run_then, run_under, run_as}
 use Rattle.forms.proofs.Equations.{part_plain_is, part_deep_is, part_construct_is, part_constant_is, part_insert_is, part_apply_is, part_bu_is, part_round_is}
 use Rattle.forms.proofs.Answers.{form_got, form_no, object_got, object_no, part_after}
@@ -48,15 +48,15 @@ round_byte b h o₁ o₂ o₃ o₄ o₅ = eqb-true b 40 (rw (ne_eqb b 91 o₁, n
 
 module _ (s : List ℕ) (at room : ℕ) {n c p b : ℕ} (a : Ready s at n c) (i : Skipped s at p) (h : b ≡ byte_at s p) where
   module _ {o : Bool} (g : o ≡ is_opening b) where
-    pub part_plain_out : {t t' u : List ℕ} {r : FormRead} → not o ≡ true → PlainMet s p n c t r t' → FormMet n c t u r t' u (part_at s at room)
+    pub part_plain_out : {t t' u : List ℕ} {r : Result Upto RefusedText} → not o ≡ true → PlainMet s p n c t r t' → FormMet n c t u r t' u (part_at s at room)
     part_plain_out {u = u} k m = rw (part_plain_is s at room p b a.inside i.is h (sym g ∙ not-true o k)) (m.means u)
 
     module _ (k : not o ≡ false) where
       opens : is_opening b ≡ true
       opens = sym g ∙ not-false o k
 
-      pub part_deep : {t u t' u' : List ℕ} → room ≡ 0 → FormMet n c t u (F.No 7 p) t' u' (part_at s at room)
-      part_deep z = rw (part_deep_is s at room p b a.inside i.is h opens z) (form_refused refl)
+      pub part_deep : {t u t' u' : List ℕ} → room ≡ 0 → FormMet n c t u (Err (refused_at 7 p)) t' u' (part_at s at room)
+      part_deep z = rw (part_deep_is s at room p b a.inside i.is h opens z) (form_refused {k = 7} {p = p} refl)
 
       -- behind the mark
       pub part_ready : Ready s (p + 1) (n + 1) c
@@ -76,10 +76,10 @@ module _ (s : List ℕ) (at room : ℕ) {n c p b : ℕ} (a : Ready s at n c) (i 
       pub prefix_below : {j : ℕ} → 5 * (length s - at) ≡ j → 5 * (length s - (p + 1)) + 1 < j
       prefix_below {j} z = below 1 j (omega arith) z
 
-      pub part_round : {t u t' u' : List ℕ} {r : FormRead} → (room ≡ 0 → ⊥) → (b ≡ 91 → ⊥) → (b ≡ 37 → ⊥) → (b ≡ 47 → ⊥) → (b ≡ 64 → ⊥) → (b ≡ 123 → ⊥) → FormMet n c t u r t' u' (round_at s (p + 1) (room - 1)) → FormMet n c t u r t' u' (part_at s at room)
+      pub part_round : {t u t' u' : List ℕ} {r : Result Upto RefusedText} → (room ≡ 0 → ⊥) → (b ≡ 91 → ⊥) → (b ≡ 37 → ⊥) → (b ≡ 47 → ⊥) → (b ≡ 64 → ⊥) → (b ≡ 123 → ⊥) → FormMet n c t u r t' u' (round_at s (p + 1) (room - 1)) → FormMet n c t u r t' u' (part_at s at room)
       part_round z o₁ o₂ o₃ o₄ o₅ m = rw (part_round_is s at room p b a.inside i.is h (omega arith) (round_byte b opens o₁ o₂ o₃ o₄ o₅)) m
 
-  module _ {t u t' u' : List ℕ} {r : FormRead} (z : room ≡ 0 → ⊥) where
+  module _ {t u t' u' : List ℕ} {r : Result Upto RefusedText} (z : room ≡ 0 → ⊥) where
     pub part_construct : b ≡ 91 → FormMet n c t u r t' u' (construct_at s (p + 1) (room - 1)) → FormMet n c t u r t' u' (part_at s at room)
     part_construct e m = rw (part_construct_is s at room p b a.inside i.is h (omega arith) e) m
 
@@ -107,22 +107,16 @@ prefix_laid kind f {n} {c} {m} {d} {t} {u} {t₁} {u₁} {t₂} a b l e = go (eq
         let z : kind ≡ 8 = omega arith in
         record { records = run_under l.records (rw z at e); cells = l.cells }
 
-module _ (kind : ℕ) (s : List ℕ) (at room : ℕ) {n c : ℕ} {t u t₁ u₁ : List ℕ} {r : FormRead} where
-  pub prefix_stops : {k p : ℕ} {t' u' : List ℕ} → FormMet (n + 1) c t u r t₁ u₁ (part_at s at room) → r ≡ F.No k p → FormMet n c t u (F.No k p) t' u' (prefix_at kind s at room)
+module _ (kind : ℕ) (s : List ℕ) (at room : ℕ) {n c : ℕ} {t u t₁ u₁ : List ℕ} {r : Result Upto RefusedText} where
+  pub prefix_stops : {e : RefusedText} {q : Result Upto RefusedText} {t' u' : List ℕ} → FormMet (n + 1) c t u r t₁ u₁ (part_at s at room) → r ≡ Err e → q ≡ Err e → FormMet n c t u q t' u' (prefix_at kind s at room)
   unfolding prefix_at
-  prefix_stops m e = rw (form_no m e) (form_refused refl)
+  prefix_stops m e o = let y = form_no m e in rw y.is (form_refused (refuses_as y o))
 
-  pub prefix_is : {x : Upto} {t₂ : List ℕ} → 7 ≤ kind → kind ≤ 8 → FormMet (n + 1) c t u r t₁ u₁ (part_at s at room) → r ≡ F.Got x → t₂ ≡ record_put t₁ n kind 1 0 0 → FormMet n c t u (F.Got x) t₂ u₁ (prefix_at kind s at room)
+  pub prefix_is : {number : ℕ} {x : Upto} {t₂ : List ℕ} → 7 ≤ kind → kind ≤ 8 → FormMet (n + 1) c t u r t₁ u₁ (part_at s at room) → r ≡ Ok x → number ≡ kind → t₂ ≡ record_put t₁ n number 1 0 0 → FormMet n c t u (Ok x) t₂ u₁ (prefix_at kind s at room)
   unfolding prefix_at
-  prefix_is a b m e w = let y = form_got m e in rw y.is (form_read refl refl (prefix_laid kind y.form a b y.laid w))
+  prefix_is a b m e z w = let y = form_got m e in rw y.is (form_read refl refl (prefix_laid kind y.form a b y.laid (rw z at w)))
 
 -- ---- read_bu
-pub tag_few : (c : ℕ) (x : Obj) → (val_of c x).tag < 4
-tag_few c (int (pos k)) = omega arith
-tag_few c (int (negsuc k)) = omega arith
-tag_few c (symbol w) = omega arith
-tag_few c (seq xs) = omega arith
-
 bu_laid : (f : Form) (x : Obj) {n c m d e : ℕ} {v : Val} {t u t₁ u₁ t₂ u₂ : List ℕ} → Laid (encode_form c f) (constants_from c f) (n + 1) c t u m d t₁ u₁ → Run (cells_from d x) d u₁ e u₂ → v ≡ val_of d x → t₂ ≡ record_put t₁ n (16 + v.tag) 1 (low_of v.word) (high_of v.word) → Laid (encode_form c (bu f x)) (constants_from c (bu f x)) n c t u m e t₂ u₂
 unfolding encode_form constants_from
 bu_laid f x {c = c} {d = d} {v = v} l r h e =
@@ -130,27 +124,24 @@ bu_laid f x {c = c} {d = d} {v = v} l r h e =
     let w : v ≡ val_of (c + constant_cells f) x = h ∙ ap (λ (q : ℕ). val_of q x) z in
     record { records = run_under l.records (rw w at e); cells = run_then l.cells (run_as (ap (λ (q : ℕ). cells_from q x) z) r) }
 
-module _ (s : List ℕ) (at room n : ℕ) {c : ℕ} {t u t₁ u₁ : List ℕ} {r : FormRead} (m : FormMet (n + 1) c t u r t₁ u₁ (part_at s at room)) where
-  pub bu_stops : {k p : ℕ} {t' u' : List ℕ} → r ≡ F.No k p → FormMet n c t u (F.No k p) t' u' (bu_at s at room)
+module _ (s : List ℕ) (at room n : ℕ) {c : ℕ} {t u t₁ u₁ : List ℕ} {r : Result Upto RefusedText} (m : FormMet (n + 1) c t u r t₁ u₁ (part_at s at room)) where
+  pub bu_stops : {e : RefusedText} {q : Result Upto RefusedText} {t' u' : List ℕ} → r ≡ Err e → q ≡ Err e → FormMet n c t u q t' u' (bu_at s at room)
   unfolding bu_at
-  bu_stops e = rw (form_no m e) (form_refused refl)
+  bu_stops e o = let y = form_no m e in rw y.is (form_refused (refuses_as y o))
 
-  module _ {x : Upto} (e : r ≡ F.Got x) where
+  module _ {x : Upto} (e : r ≡ Ok x) where
     pub bu_bound_requires : Ready s at (n + 1) c → Ready s x.next 0 x.cells
     bu_bound_requires a = let w = part_after room a m e in let y = w.ready in record { short = y.short; inside = y.inside; forms = omega arith; cells = y.cells }
 
-    module _ {q : ObjectRead} {u₂ : List ℕ} (k : ObjectMet x.cells u₁ q u₂ (bound_at s x.next room)) where
-      pub bu_unbound : {j p : ℕ} {t' u' : List ℕ} → q ≡ O.No j p → FormMet n c t u (F.No j p) t' u' (bu_at s at room)
+    module _ {q : Result ObjectRead RefusedText} {u₂ : List ℕ} (k : ObjectMet x.cells u₁ q u₂ (bound_at s x.next room)) where
+      pub bu_unbound : {o : RefusedText} {q₂ : Result Upto RefusedText} {t' u' : List ℕ} → q ≡ Err o → q₂ ≡ Err o → FormMet n c t u q₂ t' u' (bu_at s at room)
       unfolding bu_at
-      bu_unbound g = let y = form_got m e in rw (y.is, object_no k g) (form_refused refl)
+      bu_unbound g o = let y = form_got m e in let z = object_no k g in rw (y.is, z.is) (form_refused (refuses_as z o))
 
-      module _ {v : Val} {next d : ℕ} (g : q ≡ O.Got v next d) where
-        pub bu_put_requires : v.tag < 4
-        bu_put_requires = let o = object_got k g in rw o.value (tag_few x.cells o.object)
-
-        pub bu_is : {r₂ : FormRead} {t₂ : List ℕ} → BuPut n x.forms d next v t₁ r₂ t₂ → FormMet n c t u r₂ t₂ u₂ (bu_at s at room)
+      module _ {y : ObjectRead} (g : q ≡ Ok y) where
+        pub bu_is : {t₂ : List ℕ} → WordPut n (16 + y.value.tag) 1 y.value.word t₁ t₂ → FormMet n c t u (Ok (record { next = y.next; forms = x.forms; cells = y.cells })) t₂ u₂ (bu_at s at room)
         unfolding bu_at
         bu_is w =
-            let y = form_got m e in
+            let i = form_got m e in
             let o = object_got k g in
-            rw (y.is, o.is) (form_read w.is refl (bu_laid y.form o.object y.laid o.laid o.value w.table))
+            rw (i.is, o.is) (form_read refl refl (bu_laid i.form o.object i.laid o.laid o.value w.is))

@@ -2,14 +2,12 @@
 use Prim.Native.Nat.{ℕ, ◌+◌, ◌≤◌, ◌<◌}
 use mathlib.Core.Path.{◌≡◌, refl, ap, sym, ◌∙◌}
 use mathlib.Core.Bool.{Bool, true, false, and-eq-true_iff}
-use borrow.Author.Tests.{eq-eqb, ne_eqb}
+use borrow.Author.Tests.{eq-eqb}
 use lib.Dec.{eqb}
 use mathlib.Core.List.{List, [], ◌∷◌}
 use native.Mathlib.Omega.{arith}
-use mir.Syntax.{w32}
-use mir.Val.{Fits}
 use lib.ListN.{length}
-use lib.Seq.{slice}
+use Rattle.std.specs.Prelude.{slice_range}
 use Rattle.language.specs.declared.Val.{Val}
 use Rattle.language.specs.Objects.{Obj}
 use Rattle.language.specs.Forms.{Form, word, name, constant, select, select_right, op}
@@ -17,7 +15,7 @@ use Rattle.language.specs.Words.{Op}
 use Rattle.language.specs.Tokens.{byte_at, place_from}
 use Rattle.packing.specs.Packing.{packed}
 use Rattle.language.specs.Judging.{Judged, is, is_not, judge_part, refusal_of}
-use Rattle.language.specs.Reading.{Got, got, no, and_then, word_at, mark, calls}
+use Rattle.language.specs.Reading.{Got, got, and_then, word_at, mark, after_test, calls}
 use Rattle.theorems.proofs.Outcomes.{MeetsWord, meets_word}
 use Rattle.theorems.proofs.Refusals.{mark_within}
 use Rattle.theorems.proofs.JudgedWords.{IsPartIn, judged_part}
@@ -25,130 +23,94 @@ use Rattle.tables.specs.Tables.{record_put}
 use Rattle.lexer.specs.Readings.{Skipped, WordSized}
 use Rattle.lexer.specs.Vocabulary.{op_code}
 use Rattle.lexer.specs.Judgements.{part_judged}
-use Rattle.lexer.specs.declared.PartJudged.{PartJudged}
-use Rattle.lexer.specs.declared.PartJudged.TheVariants as P
-use Rattle.lexer.proofs.Words.{code_below}
+use Rattle.lexer.specs.declared.Part.{Part}
+use Rattle.lexer.proofs.Words.{code_below, op_back}
 use Rattle.cells.specs.Encoding.{val_of, cells_from}
 use Rattle.cells.proofs.Encoded.{length_cells}
 use Rattle.formtable.specs.Encoding.{low_of, high_of, encode_form, constants_from}
 use Rattle.objects.specs.declared.ObjectRead.{ObjectRead}
-use Rattle.objects.specs.declared.ObjectRead.TheVariants as O
 use Rattle.objects.specs.Readings.{ReadMeets, reads, refuses, ObjectReading}
-use Rattle.forms.specs.declared.MarkRead.{MarkRead}
-use Rattle.forms.specs.declared.MarkRead.TheVariants as M
-use Rattle.forms.specs.declared.CommaRead.TheVariants as C
-use Rattle.forms.specs.declared.DotRead.TheVariants as D
+use Rattle.std.specs.Prelude.{Some, None, Result, Ok, Err}
+use Rattle.language.specs.declared.refusals.Refusal.{Refusal}
+use Rattle.language.specs.declared.refusals.RefusedText.{RefusedText}
+use Rattle.language.specs.Refusals.{refusal, refused_at}
+use Rattle.objects.proofs.Refused.{error_of, placed, word_lent, Refuses, refuses_as}
+use Rattle.forms.specs.declared.Upto.{Upto}
+use Rattle.forms.specs.declared.TestRead.{TestRead}
 use Rattle.forms.specs.declared.TestRead.TheVariants as T
-use Rattle.forms.specs.declared.FormRead.{FormRead}
-use Rattle.forms.specs.declared.FormRead.TheVariants as F
-use Rattle.forms.specs.Readers.{object_at, plain_at, constant_read, bound_at, is_opening, is_arrow}
-use Rattle.forms.specs.Readings.{Marked, mark_read, mark_refused, Dotted, dot_read, no_dot, Separated, comma_read, bracket_read, neither_read, Tested, Run, Laid, ObjectMet, object_read, object_refused, FormMet, form_read, form_refused, PlainPut, PlainMet}
+use Rattle.forms.specs.Readers.{object_at, plain_at, constant_read, form_at, bound_at, is_arrow}
+use Rattle.forms.specs.Readings.{Marked, mark_read, mark_refused, Dotted, dot_read, no_dot, test_read, TestMet, test_met, test_refused, Tested, Run, Laid, ObjectMet, object_read, object_refused, FormMet, form_read, form_refused, WordPut, PlainMet, part_kind, part_word}
 use Rattle.forms.proofs.Laying.{run_none, run_record, run_as}
 use Rattle.forms.proofs.Small.{Plain, a_word, a_name, neither, part_plain}
 use Rattle.forms.proofs.Equations.{test_condition, test_while, test_closed, test_other}
 use Rattle.forms.proofs.Answers.{GotObject, object_got, mark_got, mark_no}
-use Rattle.forms.proofs.Parts.{tag_few}
-
--- ---- is_opening
-module _ {b : ℕ} where
-  pub opening_91 : b ≡ 91 → true ≡ is_opening b
-  opening_91 e = rw e
-
-  pub opening_37 : b ≡ 37 → true ≡ is_opening b
-  opening_37 e = rw e
-
-  pub opening_47 : b ≡ 47 → true ≡ is_opening b
-  opening_47 e = rw e
-
-  pub opening_64 : b ≡ 64 → true ≡ is_opening b
-  opening_64 e = rw e
-
-  pub opening_123 : b ≡ 123 → true ≡ is_opening b
-  opening_123 e = rw e
-
-  pub opening_40 : b ≡ 40 → true ≡ is_opening b
-  opening_40 e = rw e
-
-  pub opening_none : (b ≡ 91 → ⊥) → (b ≡ 37 → ⊥) → (b ≡ 47 → ⊥) → (b ≡ 64 → ⊥) → (b ≡ 123 → ⊥) → (b ≡ 40 → ⊥) → false ≡ is_opening b
-  opening_none o₁ o₂ o₃ o₄ o₅ o₆ = rw (ne_eqb b 91 o₁, ne_eqb b 37 o₂, ne_eqb b 47 o₃, ne_eqb b 64 o₄, ne_eqb b 123 o₅, ne_eqb b 40 o₆)
 
 -- ---- read_mark
 module _ {s : List ℕ} {at p q : ℕ} (i : Skipped s at p) (h : q ≡ byte_at s p) where
   here : byte_at s (place_from s at) ≡ q
   here = ap (λ (x : ℕ). byte_at s x) (sym i.is) ∙ sym h
 
-  pub mark_is : {b : ℕ} → q ≡ b → Marked b s at (M.Got (p + 1))
-  mark_is e = mark_read (here ∙ e) (ap (λ (x : ℕ). M.Got (x + 1)) i.is)
+  pub mark_is : {b : ℕ} → q ≡ b → Marked b s at (Ok (p + 1))
+  mark_is e = mark_read (here ∙ e) (ap (λ (x : ℕ). Ok (x + 1)) i.is)
 
-  pub mark_other : {b k : ℕ} → (q ≡ b → ⊥) → k ≡ refusal_of (word_at s p) → Marked b s at (M.No k p)
-  mark_other {b} {k} o e = mark_refused (λ z. o (sym here ∙ z)) (ap (λ (x : ℕ). M.No x p) e ∙ ap (λ (x : ℕ). M.No (refusal_of (word_at s x)) x) i.is)
+  -- the refusal of what stands there
+  pub refusal_here : {A : Type 0} {k : Refusal} → k ≡ refusal (refusal_of (word_at s p)) → ◌≡◌ {A = Result A RefusedText} (Err (record { refusal = k; place = p })) (Err (refused_at (refusal_of (word_at s (place_from s at))) (place_from s at)))
+  refusal_here e = ap (λ (x : Refusal). Err (record { refusal = x; place = p })) e ∙ ap (λ (x : ℕ). Err (refused_at (refusal_of (word_at s x)) x)) i.is
+
+  pub mark_other : {b : ℕ} {k : Refusal} → (q ≡ b → ⊥) → k ≡ refusal (refusal_of (word_at s p)) → Marked b s at (Err (record { refusal = k; place = p }))
+  mark_other {b} {k} o e = mark_refused (λ z. o (sym here ∙ z)) (refusal_here e)
 
 -- ---- read_dot
 module _ {s : List ℕ} {at p q : ℕ} (i : Skipped s at p) (h : q ≡ byte_at s p) where
-  pub dot_is : q ≡ 46 → Dotted s at (D.Dot (p + 1))
-  dot_is e = dot_read (here i h ∙ e) (ap (λ (x : ℕ). D.Dot (x + 1)) i.is)
+  pub dot_is : q ≡ 46 → Dotted s at (Some (p + 1))
+  dot_is e = dot_read (here i h ∙ e) (ap (λ (x : ℕ). Some (x + 1)) i.is)
 
-  pub dot_none : (q ≡ 46 → ⊥) → Dotted s at D.Nothing
+  pub dot_none : (q ≡ 46 → ⊥) → Dotted s at None
   dot_none o = no_dot (λ z. o (sym (here i h) ∙ z)) refl
-
--- ---- read_comma
-module _ {s : List ℕ} {at p q : ℕ} (i : Skipped s at p) (h : q ≡ byte_at s p) where
-  pub comma_closed : q ≡ 93 → Separated s at (C.Closed (p + 1))
-  comma_closed e = bracket_read (here i h ∙ e) (ap (λ (x : ℕ). C.Closed (x + 1)) i.is)
-
-  pub comma_more : q ≡ 44 → Separated s at (C.More (p + 1))
-  comma_more e = comma_read (here i h ∙ e) (ap (λ (x : ℕ). C.More (x + 1)) i.is)
-
-  pub comma_other : {k : ℕ} → (q ≡ 93 → ⊥) → (q ≡ 44 → ⊥) → k ≡ refusal_of (word_at s p) → Separated s at (C.No k p)
-  comma_other o u e = neither_read (λ z. u (sym (here i h) ∙ z)) (λ z. o (sym (here i h) ∙ z)) (ap (λ (x : ℕ). C.No x p) e ∙ ap (λ (x : ℕ). C.No (refusal_of (word_at s x)) x) i.is)
-
--- ---- is_arrow
-module _ (s : List ℕ) (p : ℕ) {b : ℕ} (h : b ≡ byte_at s p) where
-  pub arrow_none : (b ≡ 45 → ⊥) → false ≡ is_arrow s p
-  arrow_none o = rw (← h, ne_eqb b 45 o)
-
-  pub arrow_half : {d : ℕ} → b ≡ 45 → d ≡ byte_at s (p + 1) → eqb d 62 ≡ is_arrow s p
-  arrow_half e g = rw (← h, e, ← g)
 
 -- ---- read_test
 module _ {s : List ℕ} {at p : ℕ} (l : at ≤ length s) (i : Skipped s at p) where
+  -- what follows, as the answer says
+  test_as : (w : TestRead) (f : Form) (room : ℕ) → after_test s f at (λ a. form_at s a room) ≡ test_read s room f w → TestMet s room f (Ok w) (after_test s f at (λ a. form_at s a room))
+  test_as w f room e = rw e (test_met refl)
+
   module _ {o : Bool} (h : o ≡ is_arrow s p) where
-    pub test_arrow : o ≡ true → Tested s at (T.Condition (p + 2))
+    pub test_arrow : o ≡ true → Tested s at (Ok (T.Condition (p + 2)))
     test_arrow e =
         let q = (and-eq-true_iff (eqb (byte_at s p) 45) (eqb (byte_at s (p + 1)) 62)).0 (sym h ∙ e) in
         let v = mark_within s (p + 1) 62 (omega arith) q.1 in
         record {
-          is = λ f room. test_condition s at p room f i.is (sym h ∙ e);
+          is = λ f room. test_as (T.Condition (p + 2)) f room (test_condition s at p room f i.is (sym h ∙ e));
           loops = λ a z. absurd (let y : ◌≡◌ {A = ℕ} 0 1 = cc in omega arith);
           branches = λ a z. let y : p + 2 ≡ a = cc in record { behind = omega (arith, i.low); inside = omega arith };
         }
 
     module _ {b : ℕ} (e : o ≡ false) (q : b ≡ byte_at s p) where
-      pub test_loop : b ≡ 63 → Tested s at (T.While (p + 1))
+      pub test_loop : b ≡ 63 → Tested s at (Ok (T.While (p + 1)))
       test_loop g =
           let v = mark_within s p 63 (omega arith) (eq-eqb (byte_at s p) 63 (sym q ∙ g)) in
           record {
-            is = λ f room. test_while s at p b i.is q f room (sym h ∙ e) g;
+            is = λ f room. test_as (T.While (p + 1)) f room (test_while s at p b i.is q f room (sym h ∙ e) g);
             loops = λ a z. let y : p + 1 ≡ a = cc in record { behind = omega (arith, i.low); inside = omega arith };
             branches = λ a z. absurd (let y : ◌≡◌ {A = ℕ} 0 1 = cc in omega arith);
           }
 
-      pub test_close : b ≡ 41 → Tested s at (T.Closed (p + 1))
+      pub test_close : b ≡ 41 → Tested s at (Ok (T.Closed (p + 1)))
       test_close g = record {
-        is = λ f room. test_closed s at p b i.is q f room (sym h ∙ e) g;
+        is = λ f room. test_as (T.Closed (p + 1)) f room (test_closed s at p b i.is q f room (sym h ∙ e) g);
         loops = λ a z. absurd (let y : ◌≡◌ {A = ℕ} 0 1 = cc in omega arith);
         branches = λ a z. absurd (let y : ◌≡◌ {A = ℕ} 0 1 = cc in omega arith);
       }
 
-      pub test_else : {k : ℕ} → (b ≡ 63 → ⊥) → (b ≡ 41 → ⊥) → k ≡ refusal_of (word_at s p) → Tested s at (T.No k p)
-      test_else z w v = record {
-        is = λ f room. test_other s at p b i.is q f room (sym h ∙ e) z w ∙ ap (λ (j : ℕ). no j p) (sym v);
+      pub test_else : {k : Refusal} → (b ≡ 63 → ⊥) → (b ≡ 41 → ⊥) → k ≡ refusal (refusal_of (word_at s p)) → Tested s at (Err (record { refusal = k; place = p }))
+      test_else {k} z w v = record {
+        is = λ f room. rw (test_other s at p b i.is q f room (sym h ∙ e) z w) (test_refused (ap (λ (j : Refusal). Err (record { refusal = j; place = p })) v));
         loops = λ a z. absurd (let y : ◌≡◌ {A = ℕ} 0 1 = cc in omega arith);
         branches = λ a z. absurd (let y : ◌≡◌ {A = ℕ} 0 1 = cc in omega arith);
       }
 
 -- ---- what the object reader answers
-module _ (s : List ℕ) (at room : ℕ) {c : ℕ} {u : List ℕ} {r : ObjectRead} {u' : List ℕ} where
+module _ (s : List ℕ) (at room : ℕ) {c : ℕ} {u : List ℕ} {r : Result ObjectRead RefusedText} {u' : List ℕ} where
   object_met : ObjectReading s at room u c r u' → length u' ≡ length u → ObjectMet c u r u' (object_at s at room)
   unfolding object_at
   object_met h l = go (h.means (calls s) (omega arith))
@@ -157,61 +119,55 @@ module _ (s : List ℕ) (at room : ℕ) {c : ℕ} {u : List ℕ} {r : ObjectRead
       go (reads {x} e q) = let i = length_cells x c in object_read {x = x} e (record { ends = omega arith; is = q; long = l })
       go (refuses e) = object_refused e
 
-  object_none : {k p : ℕ} → ObjectReading s at room u c r u' → r ≡ O.No k p → object_at s at room ≡ no k p
+  object_none : {e : RefusedText} → ObjectReading s at room u c r u' → r ≡ Err e → Refuses e (object_at s at room)
   unfolding object_at
-  object_none {k} {p} h q = go (h.means (calls s) (omega arith))
+  object_none {e} h q = go (h.means (calls s) (omega arith))
     where
-      go : {g : Got Obj} → ReadMeets u c r u' g → g ≡ no k p
+      go : {g : Got Obj} → ReadMeets u c r u' g → Refuses e g
       go (reads e l) = absurd (let z : ◌≡◌ {A = ℕ} 0 1 = cc in omega arith)
-      go (refuses e) = cc
+      go (refuses {n} {p} f) = record { number = n; place = p; is = refl; told = error_of (sym q ∙ f) }
 
 -- ---- read_constant
 constant_laid : (x : Obj) {n c d : ℕ} {v : Val} {t u t₁ u₁ : List ℕ} → v ≡ val_of c x → Run (cells_from c x) c u d u₁ → t₁ ≡ record_put t n (12 + v.tag) 0 (low_of v.word) (high_of v.word) → Laid (encode_form c (constant x)) (constants_from c (constant x)) n c t u (n + 1) d t₁ u₁
 unfolding encode_form constants_from
 constant_laid x h l e = record { records = run_record (rw h at e); cells = l }
 
-module _ (s : List ℕ) (at room : ℕ) {c : ℕ} {u : List ℕ} {r : ObjectRead} {u₁ : List ℕ} (h : ObjectReading s at room u c r u₁) where
-  pub constant_stops : {n k p : ℕ} {t t' u' : List ℕ} → r ≡ O.No k p → FormMet n c t u (F.No k p) t' u' (constant_read s at room)
+module _ (s : List ℕ) (at room : ℕ) {c : ℕ} {u : List ℕ} {r : Result ObjectRead RefusedText} {u₁ : List ℕ} (h : ObjectReading s at room u c r u₁) where
+  pub constant_stops : {n : ℕ} {e : RefusedText} {q : Result Upto RefusedText} {t t' u' : List ℕ} → r ≡ Err e → q ≡ Err e → FormMet n c t u q t' u' (constant_read s at room)
   unfolding constant_read
-  constant_stops e = rw (object_none s at room h e) (form_refused refl)
+  constant_stops e o = let y = object_none s at room h e in rw y.is (form_refused (refuses_as y o))
 
-  module _ {v : Val} {e d : ℕ} (q : r ≡ O.Got v e d) (l : length u₁ ≡ length u) where
-    pub constant_tag_fits : Fits w32 (12 + v.tag)
-    constant_tag_fits = let o = object_got (object_met s at room h l) q in let w = tag_few c o.object in let z : v.tag ≡ (val_of c o.object).tag = ap (λ (x : Val). x.tag) o.value in record { fits = omega arith }
-
-    pub constant_is : {n : ℕ} {t t₂ : List ℕ} {r₂ : FormRead} → PlainPut n d e (12 + v.tag) v.word t r₂ t₂ → FormMet n c t u r₂ t₂ u₁ (constant_read s at room)
+  module _ {y : ObjectRead} (q : r ≡ Ok y) (l : length u₁ ≡ length u) where
+    pub constant_is : {n : ℕ} {t t₂ : List ℕ} → WordPut n (12 + y.value.tag) 0 y.value.word t t₂ → FormMet n c t u (Ok (record { next = y.next; forms = n + 1; cells = y.cells })) t₂ u₁ (constant_read s at room)
     unfolding constant_read
-    constant_is w = let o = object_got (object_met s at room h l) q in rw o.is (form_read w.is refl (constant_laid o.object o.value o.laid w.table))
+    constant_is w = let o = object_got (object_met s at room h l) q in rw o.is (form_read refl refl (constant_laid o.object o.value o.laid w.is))
 
 -- ---- read_bound
-module _ (s : List ℕ) (at room : ℕ) {c : ℕ} {u : List ℕ} {q : MarkRead} (i : Marked 44 s at q) where
-  pub bound_stops : {k p : ℕ} {u' : List ℕ} → q ≡ M.No k p → ObjectMet c u (O.No k p) u' (bound_at s at room)
+module _ (s : List ℕ) (at room : ℕ) {c : ℕ} {u : List ℕ} {q : Result ℕ RefusedText} (i : Marked 44 s at q) where
+  pub bound_stops : {e : RefusedText} {q₂ : Result ObjectRead RefusedText} {u' : List ℕ} → q ≡ Err e → q₂ ≡ Err e → ObjectMet c u q₂ u' (bound_at s at room)
   unfolding bound_at
-  bound_stops e = rw (mark_no (λ a. and_then (object_at s a room) (λ x e. mark 125 s e (λ a. got x a))) i e) (object_refused refl)
+  bound_stops e o = let y = mark_no (λ a. and_then (object_at s a room) (λ x e. mark 125 s e (λ a. got x a))) i e in rw y.is (object_refused (refuses_as y o))
 
-  module _ {a : ℕ} {r : ObjectRead} {u₁ : List ℕ} (j : q ≡ M.Got a) (h : ObjectReading s a room u c r u₁) where
+  module _ {a : ℕ} {r : Result ObjectRead RefusedText} {u₁ : List ℕ} (j : q ≡ Ok a) (h : ObjectReading s a room u c r u₁) where
     begun : bound_at s at room ≡ and_then (object_at s a room) (λ x e. mark 125 s e (λ a. got x a))
     unfolding bound_at
     begun = mark_got (λ a. and_then (object_at s a room) (λ x e. mark 125 s e (λ a. got x a))) i j
 
-    pub bound_no : {k p : ℕ} {u' : List ℕ} → r ≡ O.No k p → ObjectMet c u (O.No k p) u' (bound_at s at room)
-    bound_no e = rw (begun ∙ ap (λ (g : Got Obj). and_then g (λ x e. mark 125 s e (λ a. got x a))) (object_none s a room h e)) (object_refused refl)
+    pub bound_no : {e : RefusedText} {q₂ : Result ObjectRead RefusedText} {u' : List ℕ} → r ≡ Err e → q₂ ≡ Err e → ObjectMet c u q₂ u' (bound_at s at room)
+    bound_no e o = let y = object_none s a room h e in rw (begun ∙ ap (λ (g : Got Obj). and_then g (λ x e. mark 125 s e (λ a. got x a))) y.is) (object_refused (refuses_as y o))
 
-    module _ {v : Val} {e d : ℕ} (g : r ≡ O.Got v e d) (l : length u₁ ≡ length u) where
-      object : GotObject c u v e d u₁ (object_at s a room)
+    module _ {y : ObjectRead} (g : r ≡ Ok y) (l : length u₁ ≡ length u) where
+      object : GotObject c u y.value y.next y.cells u₁ (object_at s a room)
       object = object_got (object_met s a room h l) g
 
-      module _ {q₂ : MarkRead} (k : Marked 125 s e q₂) where
-        pub bound_open : {o p : ℕ} {u' : List ℕ} → q₂ ≡ M.No o p → ObjectMet c u (O.No o p) u' (bound_at s at room)
-        bound_open w = rw (begun ∙ ap (λ (g : Got Obj). and_then g (λ x e. mark 125 s e (λ a. got x a))) object.is ∙ mark_no (λ a. got object.object a) k w) (object_refused refl)
+      module _ {q₂ : Result ℕ RefusedText} (k : Marked 125 s y.next q₂) where
+        pub bound_open : {o : RefusedText} {q₃ : Result ObjectRead RefusedText} {u' : List ℕ} → q₂ ≡ Err o → q₃ ≡ Err o → ObjectMet c u q₃ u' (bound_at s at room)
+        bound_open w o = let z = mark_no (λ a. got object.object a) k w in rw (begun ∙ ap (λ (g : Got Obj). and_then g (λ x e. mark 125 s e (λ a. got x a))) object.is ∙ z.is) (object_refused (refuses_as z o))
 
-        pub bound_is : {next : ℕ} → q₂ ≡ M.Got next → ObjectMet c u (O.Got v next d) u₁ (bound_at s at room)
+        pub bound_is : {next : ℕ} → q₂ ≡ Ok next → ObjectMet c u (Ok (record { value = y.value; next = next; cells = y.cells })) u₁ (bound_at s at room)
         bound_is {next} w =
             rw (begun ∙ ap (λ (g : Got Obj). and_then g (λ x e. mark 125 s e (λ a. got x a))) object.is ∙ mark_got (λ a. got object.object a) k w)
-            (object_read {x = object.object} (ap (λ (x : Val). O.Got x next d) object.value) object.laid)
-
-pub bound_mark_requires : {s : List ℕ} {a room c e d : ℕ} {u u₁ : List ℕ} {r : ObjectRead} {v : Val} → ObjectReading s a room u c r u₁ → r ≡ O.Got v e d → e ≤ length s
-bound_mark_requires {e = e} {d = d} {v = v} h q = (h.ahead.ends v e d q).inside
+            (object_read {x = object.object} (ap (λ (x : Val). Ok (record { value = x; next = next; cells = y.cells })) object.value) object.laid)
 
 -- ---- read_plain
 -- a form with one record and no cells
@@ -243,65 +199,56 @@ name_plainly : (w : List ℕ) → Plainly (name w) 4 (packed w)
 unfolding encode_form constants_from
 name_plainly w = record { records = λ c. refl; cells = λ c. refl }
 
-op_judged : {k n : ℕ} {j : Judged Form} → Plain j → MeetsWord (IsPartIn n) j → part_judged j ≡ P.Primitive k → JudgedAs j 1 k
-op_judged (a_word {w = select i}) m e = absurd (let z : ◌≡◌ {A = ℕ} 0 1 = cc in omega arith)
-op_judged (a_word {w = select_right i}) m e = absurd (let z : ◌≡◌ {A = ℕ} 0 1 = cc in omega arith)
-op_judged {k} (a_word {w = op o}) m e = let z : op_code o ≡ k = cc in record { form = word (op o); judged = refl; plainly = rw (← z) (op_plainly o) }
-op_judged a_name m e = absurd (let z : ◌≡◌ {A = ℕ} 0 1 = cc in omega arith)
-op_judged neither m e = absurd (let z : ◌≡◌ {A = ℕ} 0 1 = cc in omega arith)
+part_same : {x y : Part} → ◌≡◌ {A = Result Part Refusal} (Ok x) (Ok y) → x ≡ y
+part_same h = cc
 
-select_judged : {k n : ℕ} {j : Judged Form} → Plain j → MeetsWord (IsPartIn n) j → part_judged j ≡ P.Select k → JudgedAs j 2 k
-select_judged {k} (a_word {w = select i}) (meets_word q) e = let z : i ≡ k = cc in record { form = word (select i); judged = refl; plainly = rw (← z) (select_plainly i q.is_form.1) }
-select_judged (a_word {w = select_right i}) m e = absurd (let z : ◌≡◌ {A = ℕ} 0 1 = cc in omega arith)
-select_judged (a_word {w = op o}) m e = absurd (let z : ◌≡◌ {A = ℕ} 0 1 = cc in omega arith)
-select_judged a_name m e = absurd (let z : ◌≡◌ {A = ℕ} 0 1 = cc in omega arith)
-select_judged neither m e = absurd (let z : ◌≡◌ {A = ℕ} 0 1 = cc in omega arith)
+-- what a part is judged to be, by the kind and the word that stand for it
+part_as : {n : ℕ} {j : Judged Form} {x : Part} → Plain j → MeetsWord (IsPartIn n) j → part_judged j ≡ Ok x → JudgedAs j (part_kind x) (part_word x)
+part_as (a_word {w = select i}) (meets_word q) e = rw (sym (part_same e)) (record { form = word (select i); judged = refl; plainly = select_plainly i q.is_form.1 })
+part_as (a_word {w = select_right i}) (meets_word q) e = rw (sym (part_same e)) (record { form = word (select_right i); judged = refl; plainly = right_plainly i q.is_form.1 })
+part_as (a_word {w = op o}) m e = rw (sym (part_same e), op_back o) (record { form = word (op o); judged = refl; plainly = op_plainly o })
+part_as (a_name {w}) m e = rw (sym (part_same e)) (record { form = name w; judged = refl; plainly = name_plainly w })
+part_as neither m e = absurd (let z : ◌≡◌ {A = ℕ} 0 1 = cc in omega arith)
 
-right_judged : {k n : ℕ} {j : Judged Form} → Plain j → MeetsWord (IsPartIn n) j → part_judged j ≡ P.SelectRight k → JudgedAs j 3 k
-right_judged (a_word {w = select i}) m e = absurd (let z : ◌≡◌ {A = ℕ} 0 1 = cc in omega arith)
-right_judged {k} (a_word {w = select_right i}) (meets_word q) e = let z : i ≡ k = cc in record { form = word (select_right i); judged = refl; plainly = rw (← z) (right_plainly i q.is_form.1) }
-right_judged (a_word {w = op o}) m e = absurd (let z : ◌≡◌ {A = ℕ} 0 1 = cc in omega arith)
-right_judged a_name m e = absurd (let z : ◌≡◌ {A = ℕ} 0 1 = cc in omega arith)
-right_judged neither m e = absurd (let z : ◌≡◌ {A = ℕ} 0 1 = cc in omega arith)
+-- the number that refuses a part
+record NotJudged (j : Judged Form) (e : Refusal) : Type 0 where
+  number : ℕ
+  judged : j ≡ is_not number
+  told : e ≡ refusal number
 
-name_judged_lem : {k n : ℕ} {j : Judged Form} → Plain j → MeetsWord (IsPartIn n) j → part_judged j ≡ P.Name k → JudgedAs j 4 k
-name_judged_lem (a_word {w = select i}) m e = absurd (let z : ◌≡◌ {A = ℕ} 0 1 = cc in omega arith)
-name_judged_lem (a_word {w = select_right i}) m e = absurd (let z : ◌≡◌ {A = ℕ} 0 1 = cc in omega arith)
-name_judged_lem (a_word {w = op o}) m e = absurd (let z : ◌≡◌ {A = ℕ} 0 1 = cc in omega arith)
-name_judged_lem {k} (a_name {w}) m e = let z : packed w ≡ k = cc in record { form = name w; judged = refl; plainly = rw (← z) (name_plainly w) }
-name_judged_lem neither m e = absurd (let z : ◌≡◌ {A = ℕ} 0 1 = cc in omega arith)
-
-not_judged : {j : Judged Form} {k : ℕ} → Plain j → part_judged j ≡ P.Not k → j ≡ is_not k
+not_judged : {j : Judged Form} {e : Refusal} → Plain j → part_judged j ≡ Err e → NotJudged j e
 not_judged (a_word {w = select i}) e = absurd (let z : ◌≡◌ {A = ℕ} 0 1 = cc in omega arith)
 not_judged (a_word {w = select_right i}) e = absurd (let z : ◌≡◌ {A = ℕ} 0 1 = cc in omega arith)
 not_judged (a_word {w = op o}) e = absurd (let z : ◌≡◌ {A = ℕ} 0 1 = cc in omega arith)
 not_judged a_name e = absurd (let z : ◌≡◌ {A = ℕ} 0 1 = cc in omega arith)
-not_judged neither e = cc
+not_judged (neither {n}) e = record { number = n; judged = refl; told = refusal_same (sym e) }
+  where
+    refusal_same : {x y : Refusal} → ◌≡◌ {A = Result Part Refusal} (Err x) (Err y) → x ≡ y
+    refusal_same h = cc
 
 plain_laid : (f : Form) {kind w n c : ℕ} {t u t' : List ℕ} → Plainly f kind w → t' ≡ record_put t n kind 0 (low_of w) (high_of w) → Laid (encode_form c f) (constants_from c f) n c t u (n + 1) c t' u
 plain_laid f {c = c} q e = record { records = run_as (sym (q.records c)) (run_record e); cells = run_as (sym (q.cells c)) run_none }
 
-module _ {s : List ℕ} {p k : ℕ} {j : PartJudged} (i : WordSized s p k) (h : j ≡ part_judged (judge_part (slice p (p + k) s))) where
-  judged_here : part_judged (judge_part (word_at s p)) ≡ j
-  judged_here = ap (λ (x : ℕ). part_judged (judge_part (slice p (p + x) s))) (sym i.is) ∙ sym h
+module _ {s : List ℕ} {p k : ℕ} {r : Result Part RefusedText} (i : WordSized s p k) (h : r ≡ placed p (part_judged (judge_part (slice_range s p (p + k))))) where
+  judged_here : placed p (part_judged (judge_part (word_at s p))) ≡ r
+  judged_here = sym (h ∙ ap (λ (w : List ℕ). placed p (part_judged (judge_part w))) (word_lent i))
 
-  plain_met : {n c kind w : ℕ} {t t' : List ℕ} {r : FormRead} → JudgedAs (judge_part (word_at s p)) kind w → PlainPut n c (p + k) kind w t r t' → PlainMet s p n c t r t'
+  pub plain_is : {n c number kind w : ℕ} {x : Part} {t t' : List ℕ} → r ≡ Ok x → number ≡ kind → kind ≡ part_kind x → w ≡ part_word x → WordPut n number 0 w t t' → PlainMet s p n c t (Ok (record { next = p + k; forms = n + 1; cells = c })) t'
   unfolding plain_at
-  plain_met q w = record { means = λ u. rw q.judged (form_read w.is (ap (λ (x : ℕ). p + x) i.is) (plain_laid q.form q.plainly w.table)) }
+  plain_is {n} {c} {number} {kind} {w} {x} e z a b q =
+      let y = part_as (part_plain (word_at s p)) (judged_part (word_at s p)) (as_ok (part_judged (judge_part (word_at s p))) (judged_here ∙ e)) in
+      record { means = λ u. rw y.judged (form_read refl (ap (λ (x : ℕ). p + x) i.is) (plain_laid y.form y.plainly (rw (← (z ∙ a), ← b) q.is))) }
+    where
+      as_ok : (j : Result Part Refusal) → placed p j ≡ Ok x → j ≡ Ok x
+      as_ok (Ok y) g = cc
+      as_ok (Err y) g = absurd (let z : ◌≡◌ {A = ℕ} 0 1 = cc in omega arith)
 
-  module _ {n c : ℕ} {t t' : List ℕ} {r : FormRead} {w : ℕ} where
-    pub plain_op : j ≡ P.Primitive w → PlainPut n c (p + k) 1 w t r t' → PlainMet s p n c t r t'
-    plain_op e q = plain_met (op_judged (part_plain (word_at s p)) (judged_part (word_at s p)) (judged_here ∙ e)) q
-
-    pub plain_select : j ≡ P.Select w → PlainPut n c (p + k) 2 w t r t' → PlainMet s p n c t r t'
-    plain_select e q = plain_met (select_judged (part_plain (word_at s p)) (judged_part (word_at s p)) (judged_here ∙ e)) q
-
-    pub plain_right : j ≡ P.SelectRight w → PlainPut n c (p + k) 3 w t r t' → PlainMet s p n c t r t'
-    plain_right e q = plain_met (right_judged (part_plain (word_at s p)) (judged_part (word_at s p)) (judged_here ∙ e)) q
-
-    pub plain_name : j ≡ P.Name w → PlainPut n c (p + k) 4 w t r t' → PlainMet s p n c t r t'
-    plain_name e q = plain_met (name_judged_lem (part_plain (word_at s p)) (judged_part (word_at s p)) (judged_here ∙ e)) q
-
-  pub plain_not : {n c w : ℕ} {t t' : List ℕ} → j ≡ P.Not w → PlainMet s p n c t (F.No w p) t'
+  pub plain_not : {n c : ℕ} {e : RefusedText} {q : Result Upto RefusedText} {t t' : List ℕ} → r ≡ Err e → q ≡ Err e → PlainMet s p n c t q t'
   unfolding plain_at
-  plain_not e = record { means = λ u. rw (not_judged (part_plain (word_at s p)) (judged_here ∙ e)) (form_refused refl) }
+  plain_not {n} {c} {e} {q} {t} {t'} f o = go (part_judged (judge_part (word_at s p))) refl (judged_here ∙ f)
+    where
+      go : (j : Result Part Refusal) → part_judged (judge_part (word_at s p)) ≡ j → placed p j ≡ Err e → PlainMet s p n c t q t'
+      go (Ok y) a g = absurd (let z : ◌≡◌ {A = ℕ} 0 1 = cc in omega arith)
+      go (Err y) a g =
+          let z = not_judged (part_plain (word_at s p)) a in
+          record { means = λ u. rw z.judged (form_refused (o ∙ ap (λ (t : RefusedText). Err t) (sym (error_of g) ∙ ap (λ (t : Refusal). record { refusal = t; place = p }) z.told))) }

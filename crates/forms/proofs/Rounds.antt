@@ -1,6 +1,6 @@
 -- Forms in `( )`: a law for each way out of read_round, read_closed, read_while and read_condition, and for each call that they make.
 use Prim.Native.Nat.{ℕ, ◌+◌, ◌-◌, ◌*◌, ◌≤◌, ◌<◌}
-use mathlib.Core.Path.{◌≡◌, refl, ap, ◌∙◌}
+use mathlib.Core.Path.{◌≡◌, refl, ap, sym, ◌∙◌}
 use mathlib.Core.List.{List, ◌++◌}
 use native.Mathlib.Omega.{arith}
 use lib.ListN.{length}
@@ -8,15 +8,14 @@ use Rattle.language.specs.Forms.{Form, condition, while, constant_cells}
 use Rattle.language.specs.Reading.{Got, got, and_then, mark, after_test}
 use Rattle.tables.specs.Tables.{record_put, shifted}
 use Rattle.formtable.specs.Encoding.{encode_form, constants_from}
+use Rattle.std.specs.Prelude.{Result, Ok, Err}
+use Rattle.language.specs.declared.refusals.RefusedText.{RefusedText}
+use Rattle.objects.proofs.Refused.{error_of, refuses_as}
 use Rattle.forms.specs.declared.Upto.{Upto}
-use Rattle.forms.specs.declared.MarkRead.{MarkRead}
-use Rattle.forms.specs.declared.MarkRead.TheVariants as M
 use Rattle.forms.specs.declared.TestRead.{TestRead}
 use Rattle.forms.specs.declared.TestRead.TheVariants as T
-use Rattle.forms.specs.declared.FormRead.{FormRead}
-use Rattle.forms.specs.declared.FormRead.TheVariants as F
 use Rattle.forms.specs.Readers.{form_at, closed_at, round_at, while_at, Branches, both, branches_at, condition_at}
-use Rattle.forms.specs.Readings.{Ready, Marked, test_read, Passed, Tested, Laid, FormMet, form_read, form_refused, BranchesMet, branches_read, branches_refused, Continued}
+use Rattle.forms.specs.Readings.{Ready, Marked, test_read, TestMet, test_met, test_refused, Passed, Tested, Laid, FormMet, form_read, form_refused, BranchesMet, branches_read, branches_refused, Continued}
 use Rattle.forms.proofs.Laying.{run_then, run_moved, run_as}
 use Rattle.forms.proofs.Answers.{GotForm, form_got, form_no, mark_got, mark_no, mark_passed, After, form_after}
 use Rattle.forms.proofs.Chains.{cells_at}
@@ -44,56 +43,56 @@ condition_laid p b l s h w =
     }
 
 -- ---- read_closed
-module _ (s : List ℕ) (at room : ℕ) {n c : ℕ} {t u t₁ u₁ : List ℕ} {r : FormRead} (m : FormMet n c t u r t₁ u₁ (form_at s at room)) where
-  pub closed_stops : {k p : ℕ} {t' u' : List ℕ} → r ≡ F.No k p → FormMet n c t u (F.No k p) t' u' (closed_at s at room)
+module _ (s : List ℕ) (at room : ℕ) {n c : ℕ} {t u t₁ u₁ : List ℕ} {r : Result Upto RefusedText} (m : FormMet n c t u r t₁ u₁ (form_at s at room)) where
+  pub closed_stops : {e : RefusedText} {q : Result Upto RefusedText} {t' u' : List ℕ} → r ≡ Err e → q ≡ Err e → FormMet n c t u q t' u' (closed_at s at room)
   unfolding closed_at
-  closed_stops e = rw (form_no m e) (form_refused refl)
+  closed_stops e o = let y = form_no m e in rw y.is (form_refused (refuses_as y o))
 
-  module _ {x : Upto} (e : r ≡ F.Got x) where
+  module _ {x : Upto} (e : r ≡ Ok x) where
     -- a mark may be read behind the form
     pub form_mark_requires : Ready s at n c → x.next ≤ length s
     form_mark_requires a = (form_after room a m e).ready.inside
 
-    pub closed_open : {q : MarkRead} {k p : ℕ} {t' u' : List ℕ} → Marked 41 s x.next q → q ≡ M.No k p → FormMet n c t u (F.No k p) t' u' (closed_at s at room)
+    pub closed_open : {q : Result ℕ RefusedText} {o : RefusedText} {q₂ : Result Upto RefusedText} {t' u' : List ℕ} → Marked 41 s x.next q → q ≡ Err o → q₂ ≡ Err o → FormMet n c t u q₂ t' u' (closed_at s at room)
     unfolding closed_at
-    closed_open h g = let y = form_got m e in rw (y.is, mark_no (λ a. got y.form a) h g) (form_refused refl)
+    closed_open h g o = let y = form_got m e in let z = mark_no (λ a. got y.form a) h g in rw (y.is, z.is) (form_refused (refuses_as z o))
 
-    pub closed_is : {q : MarkRead} {a : ℕ} → Marked 41 s x.next q → q ≡ M.Got a → FormMet n c t u (F.Got (record { next = a; forms = x.forms; cells = x.cells })) t₁ u₁ (closed_at s at room)
+    pub closed_is : {q : Result ℕ RefusedText} {a : ℕ} → Marked 41 s x.next q → q ≡ Ok a → FormMet n c t u (Ok (record { next = a; forms = x.forms; cells = x.cells })) t₁ u₁ (closed_at s at room)
     unfolding closed_at
     closed_is h g = let y = form_got m e in rw (y.is, mark_got (λ a. got y.form a) h g) (form_read refl refl y.laid)
 
 -- ---- read_while
-module _ (s : List ℕ) (at room : ℕ) {n m c : ℕ} {t u t₁ t₂ u₂ : List ℕ} {r : FormRead} where
-  pub while_stops : {k p : ℕ} {t' u' : List ℕ} → FormMet (m + 1) c t₁ u r t₂ u₂ (closed_at s at room) → r ≡ F.No k p → Continued (while_at s at room) n m c t u (F.No k p) t' u'
+module _ (s : List ℕ) (at room : ℕ) {n m c : ℕ} {t u t₁ t₂ u₂ : List ℕ} {r : Result Upto RefusedText} where
+  pub while_stops : {e : RefusedText} {q : Result Upto RefusedText} {t' u' : List ℕ} → FormMet (m + 1) c t₁ u r t₂ u₂ (closed_at s at room) → r ≡ Err e → q ≡ Err e → Continued (while_at s at room) n m c t u q t' u'
   unfolding while_at
-  while_stops h e = record { means = λ f c₀ t₀ u₀ l. rw (form_no h e) (form_refused refl) }
+  while_stops h e o = record { means = λ f c₀ t₀ u₀ l. let y = form_no h e in rw y.is (form_refused (refuses_as y o)) }
 
-  pub while_is : {x : Upto} {t₃ : List ℕ} → t₁ ≡ shifted t n m → FormMet (m + 1) c t₁ u r t₂ u₂ (closed_at s at room) → r ≡ F.Got x → t₃ ≡ record_put t₂ n 10 2 0 0 → Continued (while_at s at room) n m c t u (F.Got x) t₃ u₂
+  pub while_is : {x : Upto} {t₃ : List ℕ} → t₁ ≡ shifted t n m → FormMet (m + 1) c t₁ u r t₂ u₂ (closed_at s at room) → r ≡ Ok x → t₃ ≡ record_put t₂ n 10 2 0 0 → Continued (while_at s at room) n m c t u (Ok x) t₃ u₂
   unfolding while_at
   while_is g h e w = record { means = λ f c₀ t₀ u₀ l. let y = form_got h e in rw y.is (form_read refl refl (while_laid f y.form l g y.laid w)) }
 
 -- ---- read_branches
-module _ (s : List ℕ) (at room : ℕ) {n c : ℕ} {t u t₁ u₁ : List ℕ} {r : FormRead} (m : FormMet n c t u r t₁ u₁ (form_at s at room)) where
-  pub branches_stops : {k p : ℕ} {t' u' : List ℕ} → r ≡ F.No k p → BranchesMet n c t u (F.No k p) t' u' (branches_at s at room)
+module _ (s : List ℕ) (at room : ℕ) {n c : ℕ} {t u t₁ u₁ : List ℕ} {r : Result Upto RefusedText} (m : FormMet n c t u r t₁ u₁ (form_at s at room)) where
+  pub branches_stops : {e : RefusedText} {q : Result Upto RefusedText} {t' u' : List ℕ} → r ≡ Err e → q ≡ Err e → BranchesMet n c t u q t' u' (branches_at s at room)
   unfolding branches_at
-  branches_stops e = rw (form_no m e) (branches_refused refl)
+  branches_stops e o = let y = form_no m e in rw y.is (branches_refused (refuses_as y o))
 
-  module _ {x : Upto} {q : MarkRead} (e : r ≡ F.Got x) (i : Marked 59 s x.next q) where
+  module _ {x : Upto} {q : Result ℕ RefusedText} (e : r ≡ Ok x) (i : Marked 59 s x.next q) where
     begun : branches_at s at room ≡ mark 59 s x.next (λ a. and_then (closed_at s a room) (λ g e₁. got (both (form_got m e).form g) e₁))
     unfolding branches_at
     begun = ap (λ (g : Got Form). and_then g (λ f e. mark 59 s e (λ a. and_then (closed_at s a room) (λ g e. got (both f g) e)))) (form_got m e).is
 
-    pub branches_open : {k p : ℕ} {t' u' : List ℕ} → q ≡ M.No k p → BranchesMet n c t u (F.No k p) t' u' (branches_at s at room)
-    branches_open g = rw (begun ∙ mark_no (λ a. and_then (closed_at s a room) (λ g e₁. got (both (form_got m e).form g) e₁)) i g) (branches_refused refl)
+    pub branches_open : {o : RefusedText} {q₂ : Result Upto RefusedText} {t' u' : List ℕ} → q ≡ Err o → q₂ ≡ Err o → BranchesMet n c t u q₂ t' u' (branches_at s at room)
+    branches_open g o = let z = mark_no (λ a. and_then (closed_at s a room) (λ g e₁. got (both (form_got m e).form g) e₁)) i g in rw (begun ∙ z.is) (branches_refused (refuses_as z o))
 
-    module _ {a : ℕ} (j : q ≡ M.Got a) where
-      pub branches_are : {r₂ : FormRead} {t₂ u₂ : List ℕ} → FormMet x.forms x.cells t₁ u₁ r₂ t₂ u₂ (closed_at s a room) → BranchesMet n c t u r₂ t₂ u₂ (branches_at s at room)
+    module _ {a : ℕ} (j : q ≡ Ok a) where
+      pub branches_are : {r₂ : Result Upto RefusedText} {t₂ u₂ : List ℕ} → FormMet x.forms x.cells t₁ u₁ r₂ t₂ u₂ (closed_at s a room) → BranchesMet n c t u r₂ t₂ u₂ (branches_at s at room)
       branches_are k = rw (begun ∙ mark_got (λ a. and_then (closed_at s a room) (λ g e₁. got (both (form_got m e).form g) e₁)) i j) (second k)
         where
           y : GotForm n c t u x t₁ u₁ (form_at s at room)
           y = form_got m e
 
-          second : {r₂ : FormRead} {t₂ u₂ : List ℕ} {h : Got Form} → FormMet x.forms x.cells t₁ u₁ r₂ t₂ u₂ h → BranchesMet n c t u r₂ t₂ u₂ (and_then h (λ g e₁. got (both y.form g) e₁))
+          second : {r₂ : Result Upto RefusedText} {t₂ u₂ : List ℕ} {h : Got Form} → FormMet x.forms x.cells t₁ u₁ r₂ t₂ u₂ h → BranchesMet n c t u r₂ t₂ u₂ (and_then h (λ g e₁. got (both y.form g) e₁))
           second (form_refused z) = branches_refused z
           second (form_read {f = g} z v l) =
               let d = cells_at y.form y.laid in
@@ -113,48 +112,65 @@ module _ (s : List ℕ) (at room : ℕ) {n c : ℕ} {t u t₁ u₁ : List ℕ} {
         closed_below z = let w = form_after room b m e in let v = mark_passed (omega arith) i j in omega (arith, w.behind, v.0, v.1)
 
 -- ---- read_condition
-module _ (s : List ℕ) (at room : ℕ) {n m c : ℕ} {t u t₁ t₂ u₂ : List ℕ} {r : FormRead} where
-  pub condition_stops : {k p : ℕ} {t' u' : List ℕ} → BranchesMet (m + 1) c t₁ u r t₂ u₂ (branches_at s at room) → r ≡ F.No k p → Continued (condition_at s at room) n m c t u (F.No k p) t' u'
+module _ (s : List ℕ) (at room : ℕ) {n m c : ℕ} {t u t₁ t₂ u₂ : List ℕ} {r : Result Upto RefusedText} where
+  pub condition_stops : {e : RefusedText} {q : Result Upto RefusedText} {t' u' : List ℕ} → BranchesMet (m + 1) c t₁ u r t₂ u₂ (branches_at s at room) → r ≡ Err e → q ≡ Err e → Continued (condition_at s at room) n m c t u q t' u'
   unfolding condition_at
-  condition_stops {k} {p} {t'} {u'} h e = record { means = λ f c₀ t₀ u₀ l. go f h }
+  condition_stops {e} {q} {t'} {u'} h e₁ e₂ = record { means = λ f c₀ t₀ u₀ l. go f h }
     where
-      go : {c₀ : ℕ} {t₀ u₀ : List ℕ} (f : Form) {g : Got Branches} → BranchesMet (m + 1) c t₁ u r t₂ u₂ g → FormMet n c₀ t₀ u₀ (F.No k p) t' u' (and_then g (λ b e. got (condition f b.yes b.no) e))
+      go : {c₀ : ℕ} {t₀ u₀ : List ℕ} (f : Form) {g : Got Branches} → BranchesMet (m + 1) c t₁ u r t₂ u₂ g → FormMet n c₀ t₀ u₀ q t' u' (and_then g (λ b e. got (condition f b.yes b.no) e))
       go f (branches_read z v w) = absurd (let y : ◌≡◌ {A = ℕ} 0 1 = cc in omega arith)
-      go f (branches_refused {k = j} {p = v} z) = form_refused {k = j} {p = v} (cc)
+      go f (branches_refused {k = j} {p = v} z) = form_refused {k = j} {p = v} (e₂ ∙ ap (λ (t : RefusedText). Err t) (error_of (sym e₁ ∙ z)))
 
-  pub condition_is : {x : Upto} {t₃ : List ℕ} → t₁ ≡ shifted t n m → BranchesMet (m + 1) c t₁ u r t₂ u₂ (branches_at s at room) → r ≡ F.Got x → t₃ ≡ record_put t₂ n 9 3 0 0 → Continued (condition_at s at room) n m c t u (F.Got x) t₃ u₂
+  pub condition_is : {x : Upto} {t₃ : List ℕ} → t₁ ≡ shifted t n m → BranchesMet (m + 1) c t₁ u r t₂ u₂ (branches_at s at room) → r ≡ Ok x → t₃ ≡ record_put t₂ n 9 3 0 0 → Continued (condition_at s at room) n m c t u (Ok x) t₃ u₂
   unfolding condition_at
   condition_is {x} {t₃} q h e w = record { means = λ f c₀ t₀ u₀ l. go f l h }
     where
-      go : {c₀ : ℕ} {t₀ u₀ : List ℕ} (f : Form) {g : Got Branches} → Laid (encode_form c₀ f) (constants_from c₀ f) n c₀ t₀ u₀ m c t u → BranchesMet (m + 1) c t₁ u r t₂ u₂ g → FormMet n c₀ t₀ u₀ (F.Got x) t₃ u₂ (and_then g (λ b e. got (condition f b.yes b.no) e))
+      go : {c₀ : ℕ} {t₀ u₀ : List ℕ} (f : Form) {g : Got Branches} → Laid (encode_form c₀ f) (constants_from c₀ f) n c₀ t₀ u₀ m c t u → BranchesMet (m + 1) c t₁ u r t₂ u₂ g → FormMet n c₀ t₀ u₀ (Ok x) t₃ u₂ (and_then g (λ b e. got (condition f b.yes b.no) e))
       go f l (branches_read {b = b} {x = y} z v k) = form_read {x = y} (cc) v (condition_laid f b l q k w)
       go f l (branches_refused z) = absurd (let y : ◌≡◌ {A = ℕ} 0 1 = cc in omega arith)
 
 -- ---- read_round
-module _ (s : List ℕ) (at room : ℕ) {n c : ℕ} {t u t₁ u₁ : List ℕ} {r : FormRead} (m : FormMet n c t u r t₁ u₁ (form_at s at room)) where
-  pub round_stops : {k p : ℕ} {t' u' : List ℕ} → r ≡ F.No k p → FormMet n c t u (F.No k p) t' u' (round_at s at room)
+as_ok : {q : Result TestRead RefusedText} {w v : TestRead} → q ≡ Ok w → w ≡ v → q ≡ Ok v
+as_ok g h = g ∙ ap (λ (t : TestRead). Ok t) h
+
+module _ (s : List ℕ) (at room : ℕ) {n c : ℕ} {t u t₁ u₁ : List ℕ} {r : Result Upto RefusedText} (m : FormMet n c t u r t₁ u₁ (form_at s at room)) where
+  pub round_stops : {e : RefusedText} {q : Result Upto RefusedText} {t' u' : List ℕ} → r ≡ Err e → q ≡ Err e → FormMet n c t u q t' u' (round_at s at room)
   unfolding round_at
-  round_stops e = rw (form_no m e) (form_refused refl)
+  round_stops e o = let y = form_no m e in rw y.is (form_refused (refuses_as y o))
 
-  module _ {x : Upto} {q : TestRead} (e : r ≡ F.Got x) (i : Tested s x.next q) where
-    tested : round_at s at room ≡ test_read s room (form_got m e).form q
+  module _ {x : Upto} {q : Result TestRead RefusedText} (e : r ≡ Ok x) (i : Tested s x.next q) where
+    begun_round : round_at s at room ≡ after_test s (form_got m e).form x.next (λ a. form_at s a room)
     unfolding round_at
-    tested = ap (λ (g : Got Form). and_then g (λ f e. after_test s f e (λ a. form_at s a room))) (form_got m e).is ∙ i.is (form_got m e).form room
+    begun_round = ap (λ (g : Got Form). and_then g (λ f e. after_test s f e (λ a. form_at s a room))) (form_got m e).is
 
-    pub round_no : {k p : ℕ} {t' u' : List ℕ} → q ≡ T.No k p → FormMet n c t u (F.No k p) t' u' (round_at s at room)
-    round_no g = rw (tested ∙ ap (λ (w : TestRead). test_read s room (form_got m e).form w) g) (form_refused refl)
+    tested : {w : TestRead} → q ≡ Ok w → round_at s at room ≡ test_read s room (form_got m e).form w
+    tested {w} h = begun_round ∙ go (i.is (form_got m e).form room)
+      where
+        same : {v : TestRead} → ◌≡◌ {A = Result TestRead RefusedText} (Ok v) (Ok w) → v ≡ w
+        same z = cc
+
+        go : {g : Got Form} → TestMet s room (form_got m e).form q g → g ≡ test_read s room (form_got m e).form w
+        go (test_met z) = ap (λ (v : TestRead). test_read s room (form_got m e).form v) (same (sym z ∙ h))
+        go (test_refused z) = absurd (let y : ◌≡◌ {A = ℕ} 0 1 = cc in omega arith)
+
+    pub round_no : {o : RefusedText} {q₂ : Result Upto RefusedText} {t' u' : List ℕ} → q ≡ Err o → q₂ ≡ Err o → FormMet n c t u q₂ t' u' (round_at s at room)
+    round_no {o} {q₂} {t'} {u'} h o₂ = rw begun_round (go (i.is (form_got m e).form room))
+      where
+        go : {g : Got Form} → TestMet s room (form_got m e).form q g → FormMet n c t u q₂ t' u' g
+        go (test_met z) = absurd (let y : ◌≡◌ {A = ℕ} 0 1 = cc in omega arith)
+        go (test_refused z) = form_refused (o₂ ∙ ap (λ (v : RefusedText). Err v) (error_of (sym h ∙ z)))
 
     module _ {a : ℕ} where
-      pub round_is : q ≡ T.Closed a → FormMet n c t u (F.Got (record { next = a; forms = x.forms; cells = x.cells })) t₁ u₁ (round_at s at room)
-      round_is g = rw (tested ∙ ap (λ (w : TestRead). test_read s room (form_got m e).form w) g) (form_read refl refl (form_got m e).laid)
+      pub round_is : {w : TestRead} → q ≡ Ok w → w ≡ T.Closed a → FormMet n c t u (Ok (record { next = a; forms = x.forms; cells = x.cells })) t₁ u₁ (round_at s at room)
+      round_is g h = rw (tested (as_ok g h)) (form_read refl refl (form_got m e).laid)
 
-      pub round_while : {r₂ : FormRead} {t₂ u₂ : List ℕ} → q ≡ T.While a → Continued (while_at s a room) n x.forms x.cells t₁ u₁ r₂ t₂ u₂ → FormMet n c t u r₂ t₂ u₂ (round_at s at room)
-      round_while g k = let y = form_got m e in rw (tested ∙ ap (λ (w : TestRead). test_read s room (form_got m e).form w) g) (k.means y.form c t u y.laid)
+      pub round_while : {w : TestRead} {r₂ : Result Upto RefusedText} {t₂ u₂ : List ℕ} → q ≡ Ok w → w ≡ T.While a → Continued (while_at s a room) n x.forms x.cells t₁ u₁ r₂ t₂ u₂ → FormMet n c t u r₂ t₂ u₂ (round_at s at room)
+      round_while g h k = let y = form_got m e in rw (tested (as_ok g h)) (k.means y.form c t u y.laid)
 
-      pub round_condition : {r₂ : FormRead} {t₂ u₂ : List ℕ} → q ≡ T.Condition a → Continued (condition_at s a room) n x.forms x.cells t₁ u₁ r₂ t₂ u₂ → FormMet n c t u r₂ t₂ u₂ (round_at s at room)
-      round_condition g k = let y = form_got m e in rw (tested ∙ ap (λ (w : TestRead). test_read s room (form_got m e).form w) g) (k.means y.form c t u y.laid)
+      pub round_condition : {w : TestRead} {r₂ : Result Upto RefusedText} {t₂ u₂ : List ℕ} → q ≡ Ok w → w ≡ T.Condition a → Continued (condition_at s a room) n x.forms x.cells t₁ u₁ r₂ t₂ u₂ → FormMet n c t u r₂ t₂ u₂ (round_at s at room)
+      round_condition g h k = let y = form_got m e in rw (tested (as_ok g h)) (k.means y.form c t u y.laid)
 
-module _ (s : List ℕ) (at room : ℕ) {n c : ℕ} {t u t₁ u₁ : List ℕ} {r : FormRead} {x : Upto} (b : Ready s at (n + 1) c) (m : FormMet n c t u r t₁ u₁ (form_at s at room)) (e : r ≡ F.Got x) where
+module _ (s : List ℕ) (at room : ℕ) {n c : ℕ} {t u t₁ u₁ : List ℕ} {r : Result Upto RefusedText} {x : Upto} (b : Ready s at (n + 1) c) (m : FormMet n c t u r t₁ u₁ (form_at s at room)) (e : r ≡ Ok x) where
   behind : After s at x
   behind = form_after room (record { short = b.short; inside = b.inside; forms = omega (arith, b.forms); cells = b.cells }) m e
 
@@ -167,15 +183,15 @@ module _ (s : List ℕ) (at room : ℕ) {n c : ℕ} {t u t₁ u₁ : List ℕ} {
   falls : {a j : ℕ} → Passed s x.next a → 5 * (length s - at) + 2 ≡ j → 5 * (length s - a) + 3 < j
   falls p z = omega (arith, behind.behind, p.behind, p.inside)
 
-  module _ {q : TestRead} {a : ℕ} (i : Tested s x.next q) where
-    pub while_ready : q ≡ T.While a → Ready s a (x.forms + 1) x.cells
-    while_ready g = onward (i.loops a g)
+  module _ {q : Result TestRead RefusedText} {a : ℕ} (i : Tested s x.next q) where
+    pub while_ready : {w : TestRead} → q ≡ Ok w → w ≡ T.While a → Ready s a (x.forms + 1) x.cells
+    while_ready g h = onward (i.loops a (as_ok g h))
 
-    pub while_below : {j : ℕ} → q ≡ T.While a → 5 * (length s - at) + 2 ≡ j → 5 * (length s - a) + 3 < j
-    while_below g z = falls (i.loops a g) z
+    pub while_below : {j : ℕ} {w : TestRead} → q ≡ Ok w → w ≡ T.While a → 5 * (length s - at) + 2 ≡ j → 5 * (length s - a) + 3 < j
+    while_below g h z = falls (i.loops a (as_ok g h)) z
 
-    pub condition_ready : q ≡ T.Condition a → Ready s a (x.forms + 1) x.cells
-    condition_ready g = onward (i.branches a g)
+    pub condition_ready : {w : TestRead} → q ≡ Ok w → w ≡ T.Condition a → Ready s a (x.forms + 1) x.cells
+    condition_ready g h = onward (i.branches a (as_ok g h))
 
-    pub condition_below : {j : ℕ} → q ≡ T.Condition a → 5 * (length s - at) + 2 ≡ j → 5 * (length s - a) + 3 < j
-    condition_below g z = falls (i.branches a g) z
+    pub condition_below : {j : ℕ} {w : TestRead} → q ≡ Ok w → w ≡ T.Condition a → 5 * (length s - at) + 2 ≡ j → 5 * (length s - a) + 3 < j
+    condition_below g h z = falls (i.branches a (as_ok g h)) z

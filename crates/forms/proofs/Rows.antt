@@ -13,15 +13,13 @@ use Rattle.tables.specs.Tables.{record_put}
 use Rattle.formtable.specs.Encoding.{encode_form, encode_forms, constants_from, constants_from_all}
 use Rattle.formtable.proofs.Lengths.{length_all_constants}
 use Rattle.formtable.proofs.Appended.{forms_appended, constants_appended, one_form, one_constants}
+use Rattle.std.specs.Prelude.{Option, Some, None, Result, Ok, Err}
+use Rattle.language.specs.declared.refusals.RefusedText.{RefusedText}
+use Rattle.objects.proofs.Refused.{Refuses, refuses_as}
 use Rattle.forms.specs.declared.Upto.{Upto}
 use Rattle.forms.specs.declared.CommaRead.{CommaRead}
 use Rattle.forms.specs.declared.CommaRead.TheVariants as C
-use Rattle.forms.specs.declared.DotRead.{DotRead}
-use Rattle.forms.specs.declared.DotRead.TheVariants as D
-use Rattle.forms.specs.declared.FormRead.{FormRead}
-use Rattle.forms.specs.declared.FormRead.TheVariants as F
 use Rattle.forms.specs.declared.FormsRead.{FormsRead}
-use Rattle.forms.specs.declared.FormsRead.TheVariants as S
 use Rattle.forms.specs.Readers.{part_at, form_at, parts_at, forms_at, construct_at}
 use Rattle.forms.specs.Readings.{Ready, Dotted, Separated, Laid, FormMet, form_read, form_refused, FormsMet, forms_read, forms_refused}
 use Rattle.forms.proofs.Laying.{run_none, run_then, run_under, run_as}
@@ -77,14 +75,21 @@ module _ (read_at : List ℕ → ℕ → ℕ → Got Forms) {s : List ℕ} {room
         laid = more_laid w.read y.form w.laid y.laid;
       }
 
-  row_last : (e : ℕ) → read_at s at room ≡ got (y.form & stop) e → FormsMet first cell t₀ u₀ (S.Got (record { next = e; forms = x.forms; cells = x.cells }) (k + 1)) t₁ u₁ (read_at s from room)
+  row_last : (e : ℕ) → read_at s at room ≡ got (y.form & stop) e → FormsMet first cell t₀ u₀ (Ok (record { upto = record { next = e; forms = x.forms; cells = x.cells }; count = k + 1 })) t₁ u₁ (read_at s from room)
   row_last e h =
       let i = count-append w.read (y.form & stop) in
       rw (w.is ∙ ap (λ (v : Got Forms). and_then v (λ gs e. got (w.read +& gs) e)) h)
       (forms_read {fs = w.read +& (y.form & stop)} refl refl (omega (arith, w.counted)) (more_laid w.read y.form w.laid y.laid))
 
-row_no : (read_at : List ℕ → ℕ → ℕ → Got Forms) {s : List ℕ} {room from first cell : ℕ} {t₀ u₀ : List ℕ} {at n c k : ℕ} {t u t' u' : List ℕ} (w : Going read_at s room from first cell t₀ u₀ at n c k t u) (j p : ℕ) → read_at s at room ≡ no j p → FormsMet first cell t₀ u₀ (S.No j p) t' u' (read_at s from room)
-row_no read_at w j p h = rw (w.is ∙ ap (λ (v : Got Forms). and_then v (λ gs e. got (w.read +& gs) e)) h) (forms_refused refl)
+row_no : (read_at : List ℕ → ℕ → ℕ → Got Forms) {s : List ℕ} {room from first cell : ℕ} {t₀ u₀ : List ℕ} {at n c k : ℕ} {t u t' u' : List ℕ} (w : Going read_at s room from first cell t₀ u₀ at n c k t u) {e : RefusedText} {q : Result FormsRead RefusedText} → Refuses e (read_at s at room) → q ≡ Err e → FormsMet first cell t₀ u₀ q t' u' (read_at s from room)
+row_no read_at w y o = rw (w.is ∙ ap (λ (v : Got Forms). and_then v (λ gs e. got (w.read +& gs) e)) y.is) (forms_refused (refuses_as y o))
+
+-- what refuses before a step refuses behind it
+refuses_then : {A B : Type 0} {e : RefusedText} {g : Got A} {h : Got B} (k : A → ℕ → Got B) → h ≡ and_then g k → Refuses e g → Refuses e h
+refuses_then k i y = record { number = y.number; place = y.place; is = i ∙ ap (λ g. and_then g k) y.is; told = y.told }
+
+refuses_here : {A : Type 0} {e : RefusedText} {g h : Got A} → h ≡ g → Refuses e g → Refuses e h
+refuses_here i y = record { number = y.number; place = y.place; is = i ∙ y.is; told = y.told }
 
 -- ---- read_parts
 module _ (s : List ℕ) (room : ℕ) {from first cell at n c k : ℕ} {t₀ u₀ t u : List ℕ} (w : Going parts_at s room from first cell t₀ u₀ at n c k t u) where
@@ -94,25 +99,25 @@ module _ (s : List ℕ) (room : ℕ) {from first cell at n c k : ℕ} {t₀ u₀
   pub parts_count_fits : Fits w32 (k + 1)
   parts_count_fits = record { fits = omega (arith, w.few, w.ready.inside, w.ready.short) }
 
-  module _ {t₁ u₁ : List ℕ} {r : FormRead} (m : FormMet n c t u r t₁ u₁ (part_at s at room)) where
+  module _ {t₁ u₁ : List ℕ} {r : Result Upto RefusedText} (m : FormMet n c t u r t₁ u₁ (part_at s at room)) where
     part_then : parts_at s at room ≡ and_then (part_at s at room) (λ f e. after_parts s f e (λ a. parts_at s a room))
     part_then = parts_are s at room w.ready.inside
 
-    pub parts_stop : {j p : ℕ} {t' u' : List ℕ} → r ≡ F.No j p → FormsMet first cell t₀ u₀ (S.No j p) t' u' (parts_at s from room)
-    parts_stop {j} {p} e = row_no parts_at w j p (part_then ∙ ap (λ (g : Got Form). and_then g (λ f e. after_parts s f e (λ a. parts_at s a room))) (form_no m e))
+    pub parts_stop : {e : RefusedText} {q : Result FormsRead RefusedText} {t' u' : List ℕ} → r ≡ Err e → q ≡ Err e → FormsMet first cell t₀ u₀ q t' u' (parts_at s from room)
+    parts_stop e o = row_no parts_at w (refuses_then (λ f e. after_parts s f e (λ a. parts_at s a room)) part_then (form_no m e)) o
 
-    module _ {x : Upto} (e : r ≡ F.Got x) where
+    module _ {x : Upto} (e : r ≡ Ok x) where
       pub parts_dot_requires : x.next ≤ length s
       parts_dot_requires = (part_after room w.ready m e).ready.inside
 
       part_here : parts_at s at room ≡ after_parts s (form_got m e).form x.next (λ a. parts_at s a room)
       part_here = part_then ∙ ap (λ (g : Got Form). and_then g (λ f e. after_parts s f e (λ a. parts_at s a room))) (form_got m e).is
 
-      module _ {q : DotRead} (i : Dotted s x.next q) where
-        pub parts_last : q ≡ D.Nothing → FormsMet first cell t₀ u₀ (S.Got x (k + 1)) t₁ u₁ (parts_at s from room)
+      module _ {q : Option ℕ} (i : Dotted s x.next q) where
+        pub parts_last : q ≡ None → FormsMet first cell t₀ u₀ (Ok (record { upto = x; count = k + 1 })) t₁ u₁ (parts_at s from room)
         parts_last o = row_last parts_at w (form_got m e) x.next (part_here ∙ last_part s x.next (form_got m e).form (λ a. parts_at s a room) i o)
 
-        module _ {a : ℕ} (o : q ≡ D.Dot a) where
+        module _ {a : ℕ} (o : q ≡ Some a) where
           pub parts_next : Going parts_at s room from first cell t₀ u₀ a x.forms x.cells (k + 1) t₁ u₁
           parts_next =
               let z = part_after room w.ready m e in
@@ -132,28 +137,33 @@ module _ (s : List ℕ) (room : ℕ) {from first cell at n c k : ℕ} {t₀ u₀
   pub forms_count_fits : Fits w32 (k + 1)
   forms_count_fits = record { fits = omega (arith, w.few, w.ready.inside, w.ready.short) }
 
-  module _ {t₁ u₁ : List ℕ} {r : FormRead} (m : FormMet n c t u r t₁ u₁ (form_at s at room)) where
+  module _ {t₁ u₁ : List ℕ} {r : Result Upto RefusedText} (m : FormMet n c t u r t₁ u₁ (form_at s at room)) where
     form_then : forms_at s at room ≡ and_then (form_at s at room) (λ f e. after_form s f e (λ a. forms_at s a room))
     form_then = forms_are s at room w.ready.inside
 
-    pub forms_stop : {j p : ℕ} {t' u' : List ℕ} → r ≡ F.No j p → FormsMet first cell t₀ u₀ (S.No j p) t' u' (forms_at s from room)
-    forms_stop {j} {p} e = row_no forms_at w j p (form_then ∙ ap (λ (g : Got Form). and_then g (λ f e. after_form s f e (λ a. forms_at s a room))) (form_no m e))
+    pub forms_stop : {e : RefusedText} {q : Result FormsRead RefusedText} {t' u' : List ℕ} → r ≡ Err e → q ≡ Err e → FormsMet first cell t₀ u₀ q t' u' (forms_at s from room)
+    forms_stop e o = row_no forms_at w (refuses_then (λ f e. after_form s f e (λ a. forms_at s a room)) form_then (form_no m e)) o
 
-    module _ {x : Upto} (e : r ≡ F.Got x) where
+    module _ {x : Upto} (e : r ≡ Ok x) where
       pub forms_comma_requires : x.next ≤ length s
       forms_comma_requires = (form_after room w.ready m e).ready.inside
 
       form_here : forms_at s at room ≡ after_form s (form_got m e).form x.next (λ a. forms_at s a room)
       form_here = form_then ∙ ap (λ (g : Got Form). and_then g (λ f e. after_form s f e (λ a. forms_at s a room))) (form_got m e).is
 
-      module _ {q : CommaRead} (i : Separated s x.next q) where
-        pub forms_last : {a : ℕ} → q ≡ C.Closed a → FormsMet first cell t₀ u₀ (S.Got (record { next = a; forms = x.forms; cells = x.cells }) (k + 1)) t₁ u₁ (forms_at s from room)
-        forms_last {a} o = row_last forms_at w (form_got m e) a (form_here ∙ last_form s x.next (form_got m e).form (λ a. forms_at s a room) i o)
+      module _ {q : Result CommaRead RefusedText} (i : Separated s x.next q) where
+        pub forms_last : {v : CommaRead} {a : ℕ} → q ≡ Ok v → v ≡ C.Closed a → FormsMet first cell t₀ u₀ (Ok (record { upto = record { next = a; forms = x.forms; cells = x.cells }; count = k + 1 })) t₁ u₁ (forms_at s from room)
+        forms_last {v} {a} o₁ o₂ =
+            let o = o₁ ∙ ap (λ (t : CommaRead). Ok t) o₂ in
+            row_last forms_at w (form_got m e) a (form_here ∙ last_form s x.next (form_got m e).form (λ a. forms_at s a room) i o)
 
-        pub forms_other : {j p : ℕ} {t' u' : List ℕ} → q ≡ C.No j p → FormsMet first cell t₀ u₀ (S.No j p) t' u' (forms_at s from room)
-        forms_other {j} {p} o = row_no forms_at w j p (form_here ∙ other_form s x.next (form_got m e).form (λ a. forms_at s a room) i o)
+        pub forms_other : {o : RefusedText} {q₂ : Result FormsRead RefusedText} {t' u' : List ℕ} → q ≡ Err o → q₂ ≡ Err o → FormsMet first cell t₀ u₀ q₂ t' u' (forms_at s from room)
+        forms_other o o₂ = row_no forms_at w (refuses_here form_here (other_form s x.next (form_got m e).form (λ a. forms_at s a room) i o)) o₂
 
-        module _ {a : ℕ} (o : q ≡ C.More a) where
+        module _ {v : CommaRead} {a : ℕ} (o₁ : q ≡ Ok v) (o₂ : v ≡ C.More a) where
+          o : q ≡ Ok (C.More a)
+          o = o₁ ∙ ap (λ (t : CommaRead). Ok t) o₂
+
           pub forms_next : Going forms_at s room from first cell t₀ u₀ a x.forms x.cells (k + 1) t₁ u₁
           forms_next =
               let z = form_after room w.ready m e in
@@ -170,11 +180,11 @@ construct_laid : (fs : Forms) {n c k m d : ℕ} {t u t₁ u₁ t₂ : List ℕ} 
 unfolding encode_form constants_from
 construct_laid fs l h e = record { records = run_under l.records (rw h at e); cells = l.cells }
 
-module _ (s : List ℕ) (at room : ℕ) {n c : ℕ} {t u t₁ u₁ : List ℕ} {r : FormsRead} where
-  pub construct_stops : {j p : ℕ} {t' u' : List ℕ} → FormsMet (n + 1) c t u r t₁ u₁ (forms_at s at room) → r ≡ S.No j p → FormMet n c t u (F.No j p) t' u' (construct_at s at room)
+module _ (s : List ℕ) (at room : ℕ) {n c : ℕ} {t u t₁ u₁ : List ℕ} {r : Result FormsRead RefusedText} where
+  pub construct_stops : {e : RefusedText} {q : Result Upto RefusedText} {t' u' : List ℕ} → FormsMet (n + 1) c t u r t₁ u₁ (forms_at s at room) → r ≡ Err e → q ≡ Err e → FormMet n c t u q t' u' (construct_at s at room)
   unfolding construct_at
-  construct_stops m e = rw (forms_no m e) (form_refused refl)
+  construct_stops m e o = let y = forms_no m e in rw y.is (form_refused (refuses_as y o))
 
-  pub construct_is : {x : Upto} {k : ℕ} {t₂ : List ℕ} → FormsMet (n + 1) c t u r t₁ u₁ (forms_at s at room) → r ≡ S.Got x k → t₂ ≡ record_put t₁ n 6 k 0 0 → FormMet n c t u (F.Got x) t₂ u₁ (construct_at s at room)
+  pub construct_is : {w : FormsRead} {t₂ : List ℕ} → FormsMet (n + 1) c t u r t₁ u₁ (forms_at s at room) → r ≡ Ok w → t₂ ≡ record_put t₁ n 6 w.count 0 0 → FormMet n c t u (Ok w.upto) t₂ u₁ (construct_at s at room)
   unfolding construct_at
-  construct_is m e w = let y = forms_got m e in rw y.is (form_read refl refl (construct_laid y.forms y.laid y.counted w))
+  construct_is m e i = let y = forms_got m e in rw y.is (form_read refl refl (construct_laid y.forms y.laid y.counted i))

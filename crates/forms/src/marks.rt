@@ -4,61 +4,55 @@ ghost use Rattle.language.specs.Numbers.{program_limit};
 ghost use Rattle.forms.specs.Readers.{is_opening, is_arrow};
 ghost use Rattle.forms.specs.Readings.{Marked, Dotted, Separated, Tested};
 
-use super::{CommaRead, DotRead, MarkRead, TestRead};
+use super::{CommaRead, TestRead};
+use language::RefusedText;
 
-// The mark b, next from `at` on.
-pub fn read_mark(s: &[u8], at: usize, b: u8) -> MarkRead
+// The place behind the mark b, which is next from `at` on.
+pub fn read_mark(s: &[u8], at: usize, b: u8) -> Result<usize, RefusedText>
     requires { (length s.now ≤ program_limit) × (at ≤ length s.now) }
     ensures { Marked b s.now at result }
 {
     let p = lexer::skip_blanks(s, at);
     if lexer::byte_at(s, p) != b {
-        return MarkRead::No(lexer::refusal(s, p), p);
+        let refusal = lexer::refusal(s, p);
+        return Err(RefusedText { refusal, place: p });
     }
-    MarkRead::Got(p + 1)
+    Ok(p + 1)
 }
 
-// Whether a dot follows a part that ends before `at`.
-pub fn read_dot(s: &[u8], at: usize) -> DotRead
+// The place behind the dot, if one follows a part that ends before `at`.
+pub fn read_dot(s: &[u8], at: usize) -> Option<usize>
     requires { (length s.now ≤ program_limit) × (at ≤ length s.now) }
     ensures { Dotted s.now at result }
 {
     let p = lexer::skip_blanks(s, at);
     if lexer::byte_at(s, p) != b'.' {
-        return DotRead::Nothing;
+        return None;
     }
-    DotRead::Dot(p + 1)
+    Some(p + 1)
 }
 
 // What follows a form of `[ ]` that ends before `at`.
-pub fn read_comma(s: &[u8], at: usize) -> CommaRead
+pub fn read_comma(s: &[u8], at: usize) -> Result<CommaRead, RefusedText>
     requires { (length s.now ≤ program_limit) × (at ≤ length s.now) }
     ensures { Separated s.now at result }
 {
     let p = lexer::skip_blanks(s, at);
-    let b = lexer::byte_at(s, p);
-    if b == b']' {
-        return CommaRead::Closed(p + 1);
+    match lexer::byte_at(s, p) {
+        b',' => Ok(CommaRead::More(p + 1)),
+        b']' => Ok(CommaRead::Closed(p + 1)),
+        _ => Err(RefusedText {
+            refusal: lexer::refusal(s, p),
+            place: p,
+        }),
     }
-    if b != b',' {
-        return CommaRead::No(lexer::refusal(s, p), p);
-    }
-    CommaRead::More(p + 1)
 }
 
 // Whether b is a mark that a part may begin with.
 pub fn is_opening(b: u8) -> bool
     ensures { result ≡ is_opening b }
 {
-    match b {
-        b'[' => true,
-        b'%' => true,
-        b'/' => true,
-        b'@' => true,
-        b'{' => true,
-        b'(' => true,
-        _ => false,
-    }
+    matches!(b, b'[' | b'%' | b'/' | b'@' | b'{' | b'(')
 }
 
 // Whether `->` stands at p.
@@ -66,27 +60,24 @@ fn is_arrow(s: &[u8], p: usize) -> bool
     requires { p ≤ program_limit }
     ensures { result ≡ is_arrow s.now p }
 {
-    if lexer::byte_at(s, p) != b'-' {
-        return false;
-    }
-    lexer::byte_at(s, p + 1) == b'>'
+    lexer::byte_at(s, p) == b'-' && lexer::byte_at(s, p + 1) == b'>'
 }
 
 // What follows the first form in `( )`, which ends before `at`.
-pub fn read_test(s: &[u8], at: usize) -> TestRead
+pub fn read_test(s: &[u8], at: usize) -> Result<TestRead, RefusedText>
     requires { (length s.now ≤ program_limit) × (at ≤ length s.now) }
     ensures { Tested s.now at result }
 {
     let p = lexer::skip_blanks(s, at);
     if is_arrow(s, p) {
-        return TestRead::Condition(p + 2);
+        return Ok(TestRead::Condition(p + 2));
     }
-    let b = lexer::byte_at(s, p);
-    if b == b'?' {
-        return TestRead::While(p + 1);
+    match lexer::byte_at(s, p) {
+        b'?' => Ok(TestRead::While(p + 1)),
+        b')' => Ok(TestRead::Closed(p + 1)),
+        _ => Err(RefusedText {
+            refusal: lexer::refusal(s, p),
+            place: p,
+        }),
     }
-    if b != b')' {
-        return TestRead::No(lexer::refusal(s, p), p);
-    }
-    TestRead::Closed(p + 1)
 }

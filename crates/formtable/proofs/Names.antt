@@ -1,19 +1,17 @@
 -- Two names are the same exactly if both of their two numbers are; and how these are compared.
-use Prim.Native.Nat.{ℕ, ◌*◌}
+use Prim.Native.Nat.{ℕ}
 use mathlib.Core.Path.{◌≡◌, refl, sym, ap, ◌∙◌}
 use mathlib.Core.Bool.{Bool, true, false, ◌&&◌}
 use mathlib.Core.List.{List}
 use native.Mathlib.Omega.{arith}
 use lib.Dec.{eqb}
-use lib.ListN.{get_or}
-use borrow.Author.Tests.{eqb-true, eq-eqb, ne_eqb}
+use borrow.Author.Tests.{eqb-true, eq-eqb}
 use Rattle.language.specs.Bytes.{same_bytes}
 use Rattle.language.specs.Accepted.{IsName}
 use Rattle.packing.specs.Packing.{packed}
 use Rattle.language.proofs.Bytes.{same_bytes_is, same_bytes_refl}
-use Rattle.tables.specs.Tables.{field}
 use Rattle.packing.proofs.Packed.{names_equal}
-use Rattle.formtable.specs.Encoding.{low_of, high_of, named}
+use Rattle.formtable.specs.Encoding.{low_of, high_of}
 
 -- the test of two numbers by halves is one that is true exactly if they are equal
 halves_test : (b : Bool) (m n : ℕ) → (b ≡ true → m ≡ n) → (m ≡ n → b ≡ true) → (eqb (low_of m) (low_of n) && eqb (high_of m) (high_of n)) ≡ b
@@ -42,12 +40,3 @@ module _ (v w : List ℕ) (i : IsName v) (j : IsName w) where
       halves_test (same_bytes w v) (packed v) (packed w)
       (λ e. ap packed (sym (same_bytes_is w v e)))
       (λ e. ap (λ (x : List ℕ). same_bytes w x) (names_equal v w i j e) ∙ same_bytes_refl w)
-
--- ---- a definition's name, its two numbers compared one after the other
-pub name_no : (D : List ℕ) (d lo hi a : ℕ) → a ≡ get_or D (d * 4) 0 → (a ≡ lo → ⊥) → false ≡ named D d lo hi
-unfolding named
-name_no D d lo hi a e h = rw (ne_eqb (get_or D (d * 4) 0) lo (λ z. h (e ∙ z)))
-
-pub name_same : (D : List ℕ) (d lo hi a b : ℕ) → a ≡ get_or D (d * 4) 0 → a ≡ lo → b ≡ field D d 1 → eqb b hi ≡ named D d lo hi
-unfolding named
-name_same D d lo hi a b e h g = rw (eq-eqb (get_or D (d * 4) 0) lo (sym e ∙ h), g)

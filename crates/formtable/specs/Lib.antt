@@ -1,2 +1,3 @@
 pub mod Encoding
+pub mod Kinds
 pub mod Standing

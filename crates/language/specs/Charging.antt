@@ -1,8 +1,9 @@
 -- What a meter grants: a step, cells, an open name. The evaluation and the meter's methods both say it by these three.
-use Rattle.std.specs.Prelude.{ℕ, zero, suc, ◌+◌, ◌-◌, true, false, leb}
+use Rattle.std.specs.Prelude.{ℕ, zero, suc, ◌+◌, ◌-◌, true, false, leb, Result, Ok, Err}
 use Rattle.language.specs.declared.Meter.{Meter}
-use Rattle.language.specs.declared.Charge.{Charge}
-use Rattle.language.specs.declared.Charge.TheVariants.{Granted, Spent}
+use Rattle.language.specs.declared.stops.Stop.{Stop}
+use Rattle.language.specs.declared.stops.Stop.TheVariants.{StepsSpent, NamesSpent, CellsSpent}
+use Rattle.language.specs.declared.stops.Stopped.{Stopped}
 
 -- One step, if one is left: what follows is given the meter without it, or the meter as it was.
 abbrev pub take_step : {A : Type 0} → Meter → (refused granted : Meter → A) → A
@@ -22,15 +23,21 @@ with_names d m = record { steps = m.steps; names = d; cells = m.cells }
 abbrev pub take_name : {A : Type 0} → Meter → (refused granted : Meter → A) → A
 take_name m refused granted = elim m.names [ zero ↦ refused m | suc d ↦ granted (with_names d m) ]
 
--- The same as answers of the meter's methods.
-unfoldable pub step_charge : Meter → Charge
-step_charge m = take_step m Spent Granted
+-- The same as answers of the meter's methods: the meter with less, or why there is none, and the meter as it was.
+abbrev pub stop_at : Stop → Meter → Stopped
+stop_at w m = record { why = w; meter = m }
 
-unfoldable pub cells_charge : ℕ → Meter → Charge
-cells_charge n m = take_cells n m Spent Granted
+abbrev pub stopped : {A : Type 0} → Stop → Meter → Result A Stopped
+stopped w m = Err (stop_at w m)
 
-unfoldable pub name_charge : Meter → Charge
-name_charge m = take_name m Spent Granted
+unfoldable pub step_charge : Meter → Result Meter Stopped
+step_charge m = take_step m (stopped StepsSpent) Ok
+
+unfoldable pub cells_charge : ℕ → Meter → Result Meter Stopped
+cells_charge n m = take_cells n m (stopped CellsSpent) Ok
+
+unfoldable pub name_charge : Meter → Result Meter Stopped
+name_charge m = take_name m (stopped NamesSpent) Ok
 
 -- One more name may open again.
 abbrev pub name_given : Meter → Meter

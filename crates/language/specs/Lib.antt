@@ -5,11 +5,14 @@ pub mod Words
 pub mod Forms
 pub mod Tokens
 pub mod Judging
+pub mod Refusals
 pub mod Reading
 pub mod Writing
 pub mod Meanings
 pub mod Charging
 pub mod Evaluation
+pub mod Stops
+pub mod Texts
 pub mod Laws
 pub mod Uses
 pub mod Accepted

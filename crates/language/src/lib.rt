@@ -4,6 +4,14 @@
 ghost use Rattle.std.specs.Prelude.{◌<◌, ◌≡◌};
 ghost use Rattle.language.specs.Charging.{step_charge, cells_charge, name_charge, name_given};
 
+mod refusals;
+mod stops;
+mod texts;
+
+pub use refusals::{Refusal, RefusedText};
+pub use stops::{Stop, Stopped};
+pub use texts::Text;
+
 // The limits of document 01, named as in specs/Numbers. The most bytes of a program's text.
 pub const PROGRAM_LIMIT: usize = 8192;
 
@@ -50,55 +58,57 @@ pub const HALF: u64 = 2147483648;
 pub const LARGEST: u64 = 2147483647;
 
 // What is left of each budget of a run.
-#[derive(Clone, Copy)]
+#[derive(Clone, Copy, Debug, PartialEq, Eq)]
 pub struct Meter {
     pub steps: u32,
     pub names: u32,
     pub cells: u32,
 }
 
-// What was asked for is taken, or the budget is spent and the meter is as it was.
-#[derive(Clone, Copy)]
-pub enum Charge {
-    Granted(Meter),
-    Spent(Meter),
-}
-
 impl Meter {
-    // Asks for one step.
-    pub fn charge_step(mut self) -> Charge
+    // Asks for one step; where none is left the meter comes back as it was.
+    pub fn charge_step(mut self) -> Result<Meter, Stopped>
         ensures { result ≡ step_charge self }
     {
         let steps = self.steps;
         if steps == 0 {
-            return Charge::Spent(self);
+            return Err(Stopped {
+                why: Stop::StepsSpent,
+                meter: self,
+            });
         }
         self.steps = steps - 1;
-        Charge::Granted(self)
+        Ok(self)
     }
 
-    // Asks for n cells at once.
-    pub fn charge_cells(mut self, n: u32) -> Charge
+    // Asks for n cells at once; where fewer are left the meter comes back as it was.
+    pub fn charge_cells(mut self, n: u32) -> Result<Meter, Stopped>
         ensures { result ≡ cells_charge n self }
     {
         let cells = self.cells;
         if cells < n {
-            return Charge::Spent(self);
+            return Err(Stopped {
+                why: Stop::CellsSpent,
+                meter: self,
+            });
         }
         self.cells = cells - n;
-        Charge::Granted(self)
+        Ok(self)
     }
 
-    // Asks for one more open name.
-    pub fn open_name(mut self) -> Charge
+    // Asks for one more open name; where none may open the meter comes back as it was.
+    pub fn open_name(mut self) -> Result<Meter, Stopped>
         ensures { result ≡ name_charge self }
     {
         let names = self.names;
         if names == 0 {
-            return Charge::Spent(self);
+            return Err(Stopped {
+                why: Stop::NamesSpent,
+                meter: self,
+            });
         }
         self.names = names - 1;
-        Charge::Granted(self)
+        Ok(self)
     }
 
     // One more name may open again.
@@ -113,7 +123,7 @@ impl Meter {
 }
 
 // An answer's six numbers, in the order of the answer table.
-#[derive(Clone, Copy)]
+#[derive(Clone, Copy, Debug, PartialEq, Eq)]
 pub struct Answer {
     pub number: u32,
     pub place: u32,
@@ -123,72 +133,12 @@ pub struct Answer {
     pub length: u32,
 }
 
-// The numbers that an answer may have. Program text too long.
-pub const LONG_PROGRAM: u32 = 1;
-
-// Object text too long.
-pub const LONG_OBJECT: u32 = 2;
-
-// Steps over the limit.
-pub const STEPS_OVER: u32 = 3;
-
-// Open names over the limit.
-pub const NAMES_OVER: u32 = 4;
-
-// Cells over the limit, or a table of another length.
-pub const CELLS_OVER: u32 = 5;
-
-// Not in the grammar.
-pub const NOT_IN_GRAMMAR: u32 = 6;
-
-// A 33rd mark would open.
-pub const OPEN_MARKS: u32 = 7;
-
-// Number with leading zero, `-0`, or out of range, selectors included.
-pub const BAD_NUMBER: u32 = 8;
-
-// Word over 12 characters.
-pub const LONG_WORD: u32 = 9;
-
-// Too many forms or definitions.
-pub const TOO_MANY: u32 = 10;
-
-// A name defined twice.
-pub const NAME_TWICE: u32 = 11;
-
-// Constants and object need more than the budgeted cells.
-pub const FEW_CELLS: u32 = 13;
-
-// Done; length bytes written.
+// The number of an answer whose text was written.
 pub const DONE: u32 = 20;
-
-// Bottom.
-pub const BOTTOM: u32 = 21;
-
-// Steps spent.
-pub const STEPS_SPENT: u32 = 22;
-
-// Open names spent.
-pub const NAMES_SPENT: u32 = 23;
-
-// Cells spent.
-pub const CELLS_SPENT: u32 = 24;
-
-// Output too short, or the text would pass 16,384 bytes.
-pub const NO_ROOM: u32 = 25;
-
-// Object to be written has 33 open marks.
-pub const DEEP_OBJECT: u32 = 26;
-
-// What an answer's text may be. The program.
-pub const PROGRAM_TEXT: u32 = 1;
-
-// The object.
-pub const OBJECT_TEXT: u32 = 2;
 
 // An object as code holds it. The tag says what the word is: 0 an integer from 0 up, 1 a negative integer (the word is
 // one less than its size), 2 a symbol packed into a number, 3 a sequence (0 for the empty one, else its first cell and one, and its length times 2^32).
-#[derive(Clone, Copy)]
+#[derive(Clone, Copy, Debug, PartialEq, Eq)]
 pub struct Val {
     pub tag: u32,
     pub word: u64,
@@ -210,7 +160,7 @@ pub const SEQUENCE: u32 = 3;
 pub const TAGS: u32 = 4;
 
 // A word, number or mark of a text: its first byte and how many bytes it has.
-#[derive(Clone, Copy)]
+#[derive(Clone, Copy, Debug, PartialEq, Eq)]
 pub struct Token {
     pub place: usize,
     pub length: usize,

@@ -1,23 +1,28 @@
--- The table of words: the rule of each of its bytes by one computed test, and the laws of comparing and finding a word.
+-- The table of words: what its rows say at a code, by one computed test, and the laws of comparing and finding a word.
 use mathlib.Core.Path.{◌≡◌, refl, ap, sym, ◌∙◌}
 use mathlib.Core.Bool.{Bool, true, false, ◌&&◌}
 use mathlib.Core.List.{List, [], ◌∷◌, map}
 use mathlib.Core.Option.{Option, some}
-use Prim.Native.Nat.{ℕ, zero, suc, ◌+◌, ◌-◌, ◌*◌, ◌/◌, ◌%◌, ◌≤◌, ◌<◌}
-use native.Mathlib.Numerals.{add-one}
+use Prim.Native.Nat.{ℕ, zero, suc, ◌<◌}
 use native.Mathlib.Omega.{arith}
-use borrow.Author.Tests.{eq-eqb, ne_eqb}
-use lib.Dec.{T, leb, ltb, eqb, eqb→eq, leb→le, ltb→lt}
-use lib.ListN.{length, get_or, drop, replicate, drop_of_length-le, get_or-map, get_or-append, get_or-eq_default}
-use lib.Seq.{drop-cons, slice, length-slice}
+use borrow.Author.Tests.{ltb-true, ltb-false}
+use lib.Dec.{T, ltb, eqb, eqb→eq, ltb→lt}
+use lib.ListN.{length, get_or, get_or-map, get_or-eq_default, length-map}
 use Rattle.language.specs.Bytes.{same_bytes}
-use Rattle.language.specs.Words.{Op, entry, ops}
+use Rattle.language.specs.Words.{Op, CellRule, entry, ops}
 use Rattle.language.specs.Words as W
 use Rattle.language.specs.Judging.{find_op}
-use Rattle.lexer.specs.Vocabulary.{op_code, code_of, rule_code, row_of, row_byte, VocabularyRows, spelled_at, rule_at}
-use Rattle.lexer.proofs.Computed.{at, every}
-use Rattle.packing.proofs.Slices.{slice_first}
-use Rattle.lexer.proofs.Spans.{slice_none}
+use Rattle.std.specs.Prelude as S
+use Rattle.std.proofs.Common.{Bor, bytes_eq, cond}
+use Rattle.std.specs.Option.{is_some, IfSome, IsSomeAnd, MatchOption, option_map, ok_or}
+use Rattle.std.specs.List.{find}
+use Rattle.lexer.specs.declared.vocabulary.Primitive.{Primitive}
+use Rattle.lexer.specs.declared.vocabulary.Primitive.TheVariants as P
+use Rattle.lexer.specs.declared.vocabulary.Row.{Row}
+use Rattle.lexer.specs.contracts.vocabulary.Primitive as T
+use denote.Enum.Declared.{tag_of}
+use Rattle.lexer.specs.Vocabulary.{op_code, rule_code, spelled_at, rule_at, op_of, primitive_of, rule_of, rule_number, WordRow, row_says, row_of, all_rows, found, HasCode}
+use Rattle.lexer.proofs.Computed.{at}
 
 -- Every word stands in the table, at its code.
 placed : (o : Op) → (get_or ops (op_code o) W.id ≡ o) × T (ltb (op_code o) 23)
@@ -60,32 +65,6 @@ pub code_at : (k : ℕ) → k < 23 → op_code (get_or ops k W.id) ≡ k
 unfolding right_code op_code
 code_at k h = eqb→eq (op_code (get_or ops k W.id)) k (at W.id right_code ops tt k h)
 
--- Whether each byte of a table is its word's. A table for which that computes to true has every row right.
-unfoldable pub right : ℕ → ℕ → Bool
-right k x = eqb x (get_or (row_of (get_or ops (k / 9) W.id)) (k % 9) 0)
-
-row_right : (t : List ℕ) → T (every right 0 t) → (k j : ℕ) → k ≤ 22 → j < 9 → 207 ≤ length t → get_or t (k * 9 + j) 0 ≡ row_byte k j
-unfolding right row_byte
-row_right t ok k j h g n =
-    let d : (k * 9 + j) / 9 ≡ k = omega arith in
-    let m : (k * 9 + j) % 9 ≡ j = omega arith in
-    let e = eqb→eq (get_or t (k * 9 + j) 0) (get_or (row_of (get_or ops ((k * 9 + j) / 9) W.id)) ((k * 9 + j) % 9) 0) (at 0 right t ok (k * 9 + j) (omega arith)) in
-    rw (d, m) at e
-
-pub table_right : (t : List ℕ) → T (every right 0 t) → 207 ≤ length t → VocabularyRows t
-table_right t ok n = record { long = n; rows = λ k j h g. row_right t ok k j h g n }
-
-pub row_in : {t : List ℕ} {k j : ℕ} → VocabularyRows t → k ≤ 22 → j < 9 → get_or t (k * 9 + j) 0 ≡ row_byte k j
-row_in r h g = r.rows _ _ h g
-
--- no word has more than seven letters
-short : ℕ → Op → Bool
-short k o = leb (length (entry o).spelled) 7
-
-few_letters : (k : ℕ) → k < 23 → length (entry (get_or ops k W.id)).spelled ≤ 7
-unfolding short
-few_letters k h = leb→le (length (entry (get_or ops k W.id)).spelled) 7 (at W.id short ops tt k h)
-
 any_default : {A : Type 0} (l : List A) (k : ℕ) (d e : A) → k < length l → get_or l k d ≡ get_or l k e
 any_default [] k d e h = absurd (omega arith)
 any_default (x ∷ l) zero d e h = refl
@@ -110,54 +89,6 @@ pub spelled_past : (k : ℕ) → 22 < k → spelled_at k ≡ []
 unfolding spelled_at
 spelled_past k h = get_or-eq_default (map (λ (o : Op). (entry o).spelled) ops) [] {n = k} h
 
-pub length_past : (k : ℕ) → 22 < k → 0 ≡ length (spelled_at k)
-length_past k h = rw (spelled_past k h)
-
-pub byte_past : (k i : ℕ) → 22 < k → 0 ≡ get_or (spelled_at k) i 0
-byte_past k i h = rw (spelled_past k h)
-
-pub byte_over : (k i : ℕ) {n : ℕ} → n ≡ length (spelled_at k) → n ≤ i → 0 ≡ get_or (spelled_at k) i 0
-byte_over k i e h = sym (get_or-eq_default (spelled_at k) 0 {n = i} (omega arith))
-
-pub rule_past : (k : ℕ) → 22 < k → 0 ≡ rule_at k
-unfolding rule_at
-rule_past k h = sym (get_or-eq_default (map (λ (o : Op). rule_code (entry o).rule) ops) 0 {n = k} h)
-
-pub few : (k : ℕ) → k ≤ 22 → length (spelled_at k) ≤ 7
-few k h = rw (spelled_at_lem k (omega arith)) (few_letters k (omega arith))
-
--- the bytes of a row
-module _ (k : ℕ) (h : k ≤ 22) where
-  rule_byte : row_byte k 0 ≡ 48 + rule_at k
-  unfolding row_byte row_of
-  rule_byte = ap (λ (n : ℕ). 48 + n) (sym (rule_at_lem k (omega arith)))
-
-  length_byte : row_byte k 1 ≡ 48 + length (spelled_at k)
-  unfolding row_byte row_of
-  length_byte = ap (λ (w : List ℕ). 48 + length w) (sym (spelled_at_lem k (omega arith)))
-
-  pub rule_low : {b : ℕ} → b ≡ row_byte k 0 → 48 ≤ b
-  rule_low e = rw (e, rule_byte) (omega arith)
-
-  pub rule_is : {b : ℕ} → b ≡ row_byte k 0 → b - 48 ≡ rule_at k
-  rule_is e = rw (e, rule_byte) (omega arith)
-
-  pub length_low : {b : ℕ} → b ≡ row_byte k 1 → 48 ≤ b
-  length_low e = rw (e, length_byte) (omega arith)
-
-  pub length_is : {b : ℕ} → b ≡ row_byte k 1 → b - 48 ≡ length (spelled_at k)
-  length_is e = rw (e, length_byte) (omega arith)
-
-  pub length_few : {b : ℕ} → b ≡ row_byte k 1 → b - 48 ≤ 7
-  length_few e = let f = few k h in rw (e, length_byte) (omega arith)
-
-  letter_at : (i : ℕ) → i < length (spelled_at k) → row_byte k (suc (suc i)) ≡ get_or (spelled_at k) i 0
-  unfolding row_byte row_of
-  letter_at i g = get_or-append (entry (get_or ops k W.id)).spelled (replicate 7 32) 0 i (rw (spelled_at_lem k (omega arith)) at g) ∙ ap (λ (w : List ℕ). get_or w i 0) (sym (spelled_at_lem k (omega arith)))
-
-  pub letter_is : (i : ℕ) {n b : ℕ} → n ≡ length (spelled_at k) → n ≤ 7 → i < n → b ≡ row_byte k (i + 2) → b ≡ get_or (spelled_at k) i 0
-  letter_is i e m l r = let z : i + 2 ≡ suc (suc i) = omega arith in r ∙ rw z (letter_at i (omega arith))
-
 -- comparing a word, byte by byte
 pub same_not : (v w : List ℕ) → (length v ≡ length w → ⊥) → same_bytes v w ≡ false
 same_not [] [] h = absurd (h refl)
@@ -169,41 +100,128 @@ same_not (x ∷ v) (y ∷ w) h = go (eqb x y) (same_not v w (λ e. h (ap suc e))
     go true e = e
     go false e = refl
 
-pub none_left : (s : List ℕ) (from to code : ℕ) → same_bytes (spelled_at code) (slice from to s) ≡ same_bytes (drop (from - from) (spelled_at code)) (slice from to s)
-none_left s from to code = let e : from - from ≡ 0 = omega arith in rw e
-
-module _ (s : List ℕ) (from to i code : ℕ) (fits : to ≤ length s) where
-  pub word_lengths : {n : ℕ} → from ≤ to → n ≡ length (spelled_at code) → (n ≡ to - from → ⊥) → false ≡ same_bytes (spelled_at code) (slice from to s)
-  word_lengths {n} o e h = sym (same_not (spelled_at code) (slice from to s) (λ z. h (e ∙ z ∙ length-slice from to s fits)))
-
-  here : i < to → i - from < length (spelled_at code) → same_bytes (drop (i - from) (spelled_at code)) (slice i to s) ≡ eqb (get_or (spelled_at code) (i - from) 0) (get_or s i 0) && same_bytes (drop (suc (i - from)) (spelled_at code)) (slice (i + 1) to s)
-  here h k = rw (drop-cons (spelled_at code) (i - from) 0 k, slice_first s i to h fits)
-
-  module _ {n b : ℕ} (size : n ≡ length (spelled_at code)) (long : n ≡ to - from) (h : i < to) (b-is : b ≡ get_or (spelled_at code) (i - from) 0) (low : from ≤ i) (inv : same_bytes (spelled_at code) (slice from to s) ≡ same_bytes (drop (i - from) (spelled_at code)) (slice i to s)) where
-    pub word_on : b ≡ get_or s i 0 → same_bytes (spelled_at code) (slice from to s) ≡ same_bytes (drop (i + 1 - from) (spelled_at code)) (slice (i + 1) to s)
-    word_on e =
-        let m : suc (i - from) ≡ i + 1 - from = omega arith in
-        inv ∙ here h (omega arith) ∙ rw (eq-eqb (get_or (spelled_at code) (i - from) 0) (get_or s i 0) (sym b-is ∙ e), m)
-
-    pub word_differs : (b ≡ get_or s i 0 → ⊥) → false ≡ same_bytes (spelled_at code) (slice from to s)
-    word_differs e = sym (inv ∙ here h (omega arith) ∙ rw (ne_eqb (get_or (spelled_at code) (i - from) 0) (get_or s i 0) (λ z. e (b-is ∙ z))))
-
-  pub word_end : {n : ℕ} → n ≡ length (spelled_at code) → n ≡ to - from → to ≤ i → from ≤ i → same_bytes (spelled_at code) (slice from to s) ≡ same_bytes (drop (i - from) (spelled_at code)) (slice i to s) → true ≡ same_bytes (spelled_at code) (slice from to s)
-  word_end {n} size long h low inv = sym (inv ∙ rw (drop_of_length-le (spelled_at code) {i = i - from} (omega arith), slice_none s i to fits h))
-
 -- finding a word
 choose : (o : Op) (os : List Op) (w : List ℕ) (t : Bool) → same_bytes (entry o).spelled w ≡ t → find_op (o ∷ os) w ≡ elim t as (λ (u : Bool). Option Op) [ true ↦ some o | false ↦ find_op os w ]
 choose o os w t e = ap (λ (t : Bool). elim t as (λ (u : Bool). Option Op) [ true ↦ some o | false ↦ find_op os w ]) e
 
-module _ (w : List ℕ) (k : ℕ) where
-  try : (h : k < 23) (t : Bool) → same_bytes (spelled_at k) w ≡ t → find_op (drop k ops) w ≡ elim t as (λ (u : Bool). Option Op) [ true ↦ some (get_or ops k W.id) | false ↦ find_op (drop (suc k) ops) w ]
-  try h t e = ap (λ (l : List Op). find_op l w) (drop-cons ops k W.id h) ∙ choose (get_or ops k W.id) (drop (suc k) ops) w t (ap (λ (v : List ℕ). same_bytes v w) (sym (spelled_at_lem k h)) ∙ e)
+-- ---- the words as code names them
+pub op_back : (o : Op) → op_of (primitive_of o) ≡ o
+op_back W.id = refl
+op_back W.tl = refl
+op_back W.atom = refl
+op_back W.null = refl
+op_back W.eq = refl
+op_back W.lt = refl
+op_back W.length = refl
+op_back W.add = refl
+op_back W.sub = refl
+op_back W.mul = refl
+op_back W.div = refl
+op_back W.and = refl
+op_back W.or = refl
+op_back W.not = refl
+op_back W.apndl = refl
+op_back W.tlr = refl
+op_back W.reverse = refl
+op_back W.rotl = refl
+op_back W.rotr = refl
+op_back W.apndr = refl
+op_back W.distl = refl
+op_back W.distr = refl
+op_back W.trans = refl
 
-  pub find_on : {t : Bool} → k < 23 → t ≡ same_bytes (spelled_at k) w → t ≡ false → code_of (find_op ops w) ≡ code_of (find_op (drop k ops) w) → code_of (find_op ops w) ≡ code_of (find_op (drop (k + 1) ops) w)
-  find_on h is n inv = inv ∙ ap code_of (try h false (sym is ∙ n)) ∙ ap (λ (j : ℕ). code_of (find_op (drop j ops) w)) (sym (add-one k))
+-- the rule's number as code gives it
+pub rule_numbers : (r : CellRule) → rule_number (rule_of r) ≡ rule_code r
+rule_numbers W.no_cell = refl
+rule_numbers W.one_cell = refl
+rule_numbers W.n_less_1 = refl
+rule_numbers W.n_cells = refl
+rule_numbers W.n_and_1 = refl
+rule_numbers W.three_n = refl
+rule_numbers W.m_and_m_times_n = refl
 
-  pub find_here : {t : Bool} → k < 23 → t ≡ same_bytes (spelled_at k) w → t ≡ true → code_of (find_op ops w) ≡ code_of (find_op (drop k ops) w) → k ≡ code_of (find_op ops w)
-  find_here h is n inv = sym (inv ∙ ap code_of (try h true (sym is ∙ n)) ∙ code_at k h)
+-- an answer that is mapped
+pub mapped : {A B : Type 0} {Post : A → B → Type 0} (f : A → B) (o : S.Option A) (r : S.Option B) → MatchOption o (r ≡ S.None) (λ x. IsSomeAnd r (Post x)) → ((x : A) (y : B) → Post x y → y ≡ f x) → r ≡ option_map f o
+mapped f S.None r h k = h
+mapped f (S.Some x) S.None h k = absurd h
+mapped f (S.Some x) (S.Some y) h k = ap S.Some (k x y h)
 
-  pub find_none : 23 ≤ k → k ≤ 23 → code_of (find_op ops w) ≡ code_of (find_op (drop k ops) w) → k ≡ code_of (find_op ops w)
-  find_none h g inv = let e : k ≡ 23 = omega arith in sym (inv ∙ rw (drop_of_length-le ops {i = k} h) (sym e))
+-- a word's discriminant is its code
+pub tags : (p : Primitive) → tag_of T.the_type p ≡ op_code (op_of p)
+unfolding op_code
+tags P.Id = refl
+tags P.Tl = refl
+tags P.Atom = refl
+tags P.Null = refl
+tags P.Eq = refl
+tags P.Lt = refl
+tags P.Length = refl
+tags P.Add = refl
+tags P.Sub = refl
+tags P.Mul = refl
+tags P.Div = refl
+tags P.And = refl
+tags P.Or = refl
+tags P.Not = refl
+tags P.Apndl = refl
+tags P.Tlr = refl
+tags P.Reverse = refl
+tags P.Rotl = refl
+tags P.Rotr = refl
+tags P.Apndr = refl
+tags P.Distl = refl
+tags P.Distr = refl
+tags P.Trans = refl
+
+-- what the row with a code says
+said : (k : ℕ) (t : WordRow) → k < 23 → get_or all_rows k t ≡ row_of (get_or ops k W.id)
+said k t l = any_default all_rows k t (row_of W.id) l ∙ get_or-map row_of ops k W.id
+
+read : (g : S.Option (Bor Row)) → option_map (λ (x : Bor Row). x.now.word) g ≡ option_map (λ (r : Row). r.word) (option_map (λ (x : Bor Row). x.now) g)
+read S.None = refl
+read (S.Some x) = refl
+
+-- the word of the first row that is spelled so, by what the rows say
+word_found : (w : List ℕ) (rows : List Row) → option_map (λ (r : Row). r.word) (find (λ (r : Row). bytes_eq r.letters.now w) rows) ≡ option_map (λ (u : WordRow). u.word) (find (λ (u : WordRow). bytes_eq u.letters w) (map row_says rows))
+word_found w [] = refl
+word_found w (r ∷ rows) = go (bytes_eq r.letters.now w) refl (word_found w rows)
+  where
+    go : (t : Bool) → bytes_eq r.letters.now w ≡ t → option_map (λ (r : Row). r.word) (find (λ (r : Row). bytes_eq r.letters.now w) rows) ≡ option_map (λ (u : WordRow). u.word) (find (λ (u : WordRow). bytes_eq u.letters w) (map row_says rows)) → option_map (λ (r : Row). r.word) (cond (bytes_eq r.letters.now w) (S.Some r) (find (λ (r : Row). bytes_eq r.letters.now w) rows)) ≡ option_map (λ (u : WordRow). u.word) (cond (bytes_eq r.letters.now w) (S.Some (row_says r)) (find (λ (u : WordRow). bytes_eq u.letters w) (map row_says rows)))
+    go true e h = rw e refl
+    go false e h = rw e h
+
+first_found : (w : List ℕ) (os : List Op) → option_map (λ (u : WordRow). u.word) (find (λ (u : WordRow). bytes_eq u.letters w) (map row_of os)) ≡ found (find_op os w)
+first_found w [] = refl
+first_found w (o ∷ os) = go (same_bytes (entry o).spelled w) refl (first_found w os)
+  where
+    go : (t : Bool) → same_bytes (entry o).spelled w ≡ t → option_map (λ (u : WordRow). u.word) (find (λ (u : WordRow). bytes_eq u.letters w) (map row_of os)) ≡ found (find_op os w) → option_map (λ (u : WordRow). u.word) (cond (bytes_eq (entry o).spelled w) (S.Some (row_of o)) (find (λ (u : WordRow). bytes_eq u.letters w) (map row_of os))) ≡ found (find_op (o ∷ os) w)
+    go true e h = rw (e, choose o os w true e) refl
+    go false e h = rw (e, choose o os w false e) h
+
+module _ (rows : List Row) (is : map row_says rows ≡ all_rows) where
+  says_at : (k : ℕ) (d : Row) → k < 23 → row_says (get_or rows k d) ≡ row_of (get_or ops k W.id)
+  says_at k d l = sym (get_or-map row_says rows k d) ∙ ap (λ (t : List WordRow). get_or t k (row_says d)) is ∙ said k (row_says d) l
+
+  -- the row at a word's discriminant is that word's
+  pub row_at : (p : Primitive) (d : Row) → row_says (get_or rows (tag_of T.the_type p) d) ≡ row_of (op_of p)
+  row_at p d = rw (tags p) (says_at (op_code (op_of p)) d (code_below (op_of p)) ∙ ap row_of (op_at (op_of p)))
+
+  pub many : length rows ≡ 23
+  many = sym (length-map rows row_says) ∙ ap length is
+
+  -- the row with a code is of the word with that code; past the table there is none
+  pub by_place : (code : ℕ) (g : S.Option (Bor Row)) → is_some g ≡ ltb code (length rows) → IfSome g (λ x. x.now ≡ get_or rows code x.now) → HasCode code (ok_or (option_map (λ (x : Bor Row). x.now.word) g) (record { 0 = code }))
+  by_place code S.None e h = (refl, ltb-false code 23 (sym (e ∙ ap (ltb code) many)))
+  by_place code (S.Some x) e h =
+      let l : code < 23 = ltb-true code 23 (sym (e ∙ ap (ltb code) many)) in
+      let m : x.now.word ≡ primitive_of (get_or ops code W.id) = ap (λ (r : Row). r.word) h ∙ ap (λ (t : WordRow). t.word) (says_at code x.now l) in
+      rw (m, op_back (get_or ops code W.id)) (code_at code l)
+
+  -- the first row that is spelled so is of the word that is found
+  pub first_row : (w : List ℕ) (g : S.Option (Bor Row)) → option_map (λ (x : Bor Row). x.now) g ≡ find (λ (r : Row). bytes_eq r.letters.now w) rows → option_map (λ (x : Bor Row). x.now.word) g ≡ found (find_op ops w)
+  first_row w g e = read g ∙ ap (option_map (λ (r : Row). r.word)) e ∙ word_found w rows ∙ ap (λ (t : List WordRow). option_map (λ (u : WordRow). u.word) (find (λ (u : WordRow). bytes_eq u.letters w) t)) is ∙ first_found w ops
+
+-- what stands at a word's code is that word's, as code names it
+module _ (p : Primitive) {code : ℕ} (is : op_code (op_of p) ≡ code) where
+  pub spelled_is : (entry (op_of p)).spelled ≡ spelled_at code
+  spelled_is = sym (spelled_of (op_of p)) ∙ ap spelled_at is

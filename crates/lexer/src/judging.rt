@@ -1,234 +1,211 @@
 // What a word or number is where an object, a part or a defined name may stand; or the refusal.
-ghost use Rattle.std.specs.Prelude.{◌≡◌, ◌+◌, ◌≤◌, ◌<◌, length};
-ghost use Rattle.std.proofs.Math.Seq.{slice};
+ghost use Rattle.std.specs.Prelude.{◌≡◌};
 ghost use Rattle.language.specs.Bytes.{bytes, same_bytes};
 ghost use Rattle.language.specs.Reading.{word_at};
+ghost use Rattle.language.specs.Refusals.{refusal};
 ghost use Rattle.language.specs.Judging.{judge_word, leading_zero, judge_integer, judge_negative, judge_atom, is_selector, judge_selector, judge_part, judge_name, refusal_of};
 ghost use Rattle.lexer.specs.Classes.{test_of};
-ghost use Rattle.lexer.specs.Judgements.{WordJudged, judge_symbol, judge_plain, atom_judged, part_judged, name_judged};
+ghost use Rattle.lexer.specs.Judgements.{WordJudged, judge_symbol, judge_plain, atom_judged, selector_judged, part_judged, name_judged};
 
-use super::{
-    AtomJudged, Class, NameJudged, PartJudged, classes, codes, numbers, reader, vocabulary,
-};
-use language::Val;
+use super::{Class, Part, classes, numbers, reader, vocabulary};
+use language::{Refusal, Val};
 
-// The refusal of a word by its length and its bytes' class: 9, 6, or 0 if it stands.
-fn judge_word(s: &[u8], from: usize, to: usize, class: Class) -> u32
-    requires { (from ≤ to) × (to ≤ length s.now) }
-    ensures { WordJudged (judge_word (test_of class) (slice from to s.now)) (slice from to s.now) result }
+// A word is refused by its length, then by its bytes' class.
+fn judge_word(word: &[u8], class: Class) -> Result<(), Refusal>
+    ensures { WordJudged (judge_word (test_of class) word.now) word.now result }
 {
-    if language::WORD_LIMIT < to - from {
-        return language::LONG_WORD;
+    if language::WORD_LIMIT < word.len() {
+        return Err(Refusal::LongWord);
     }
-    if reader::span_end(s, from, to, class) < to {
-        return language::NOT_IN_GRAMMAR;
+    if !classes::all_pass(class, word) {
+        return Err(Refusal::NotInGrammar);
     }
-    0
+    Ok(())
 }
 
 // Whether digits stand after a first 0.
-fn has_leading_zero(s: &[u8], from: usize, to: usize) -> bool
-    requires { (from ≤ to) × (to ≤ length s.now) }
-    ensures { result ≡ leading_zero (slice from to s.now) }
+fn has_leading_zero(digits: &[u8]) -> bool
+    ensures { result ≡ leading_zero digits.now }
 {
-    if to - from < 2 {
-        return false;
+    match digits {
+        [first, _, ..] => *first == b'0',
+        _ => false,
     }
-    s[from] == b'0'
 }
 
 // A number without a sign.
-fn judge_integer(s: &[u8], from: usize, to: usize) -> AtomJudged
-    requires { (from ≤ to) × (to ≤ length s.now) }
-    ensures { result ≡ atom_judged (judge_integer (slice from to s.now)) }
+fn judge_integer(digits: &[u8]) -> Result<Val, Refusal>
+    ensures { result ≡ atom_judged (judge_integer digits.now) }
 {
-    if reader::span_end(s, from, to, Class::Digit) < to {
-        return AtomJudged::Not(language::NOT_IN_GRAMMAR);
+    if !classes::all_pass(Class::Digit, digits) {
+        return Err(Refusal::NotInGrammar);
     }
-    if has_leading_zero(s, from, to) {
-        return AtomJudged::Not(language::BAD_NUMBER);
+    if has_leading_zero(digits) {
+        return Err(Refusal::BadNumber);
     }
-    let v = numbers::value(s, from, to);
+    let v = numbers::value(digits);
     if language::LARGEST < v {
-        return AtomJudged::Not(language::BAD_NUMBER);
+        return Err(Refusal::BadNumber);
     }
-    AtomJudged::Is(Val {
+    Ok(Val {
         tag: language::POSITIVE,
         word: v,
     })
 }
 
 // A number's digits behind a minus.
-fn judge_negative(s: &[u8], from: usize, to: usize) -> AtomJudged
-    requires { (from ≤ to) × (to ≤ length s.now) }
-    ensures { result ≡ atom_judged (judge_negative (slice from to s.now)) }
+fn judge_negative(digits: &[u8]) -> Result<Val, Refusal>
+    ensures { result ≡ atom_judged (judge_negative digits.now) }
 {
-    if from == to {
-        return AtomJudged::Not(language::NOT_IN_GRAMMAR);
+    let [first, ..] = digits else {
+        return Err(Refusal::NotInGrammar);
+    };
+    if !classes::all_pass(Class::Digit, digits) {
+        return Err(Refusal::NotInGrammar);
     }
-    if reader::span_end(s, from, to, Class::Digit) < to {
-        return AtomJudged::Not(language::NOT_IN_GRAMMAR);
+    if *first == b'0' {
+        return Err(Refusal::BadNumber);
     }
-    if s[from] == b'0' {
-        return AtomJudged::Not(language::BAD_NUMBER);
-    }
-    let v = numbers::value(s, from, to);
+    let v = numbers::value(digits);
     if language::HALF < v {
-        return AtomJudged::Not(language::BAD_NUMBER);
+        return Err(Refusal::BadNumber);
     }
-    AtomJudged::Is(Val {
+    Ok(Val {
         tag: language::NEGATIVE,
         word: v - 1,
     })
 }
 
 // A symbol.
-fn judge_symbol(s: &[u8], from: usize, to: usize) -> AtomJudged
-    requires { (from ≤ to) × (to ≤ length s.now) }
-    ensures { result ≡ atom_judged (judge_symbol (slice from to s.now)) }
+fn judge_symbol(word: &[u8]) -> Result<Val, Refusal>
+    ensures { result ≡ atom_judged (judge_symbol word.now) }
 {
-    let refused = judge_word(s, from, to, Class::Symbol);
-    if refused != 0 {
-        return AtomJudged::Not(refused);
-    }
-    let word = packing::pack(s, from, to);
-    AtomJudged::Is(Val {
+    judge_word(word, Class::Symbol)?;
+    Ok(Val {
         tag: language::SYMBOL,
-        word,
+        word: packing::pack(word),
     })
 }
 
-// The n bytes at p, where an object may stand.
-pub fn judge_atom(s: &[u8], p: usize, n: usize) -> AtomJudged
-    requires { p + n ≤ length s.now }
-    ensures { result ≡ atom_judged (judge_atom (slice p (p + n) s.now)) }
+// The word, number or mark where an object may stand.
+pub fn judge_atom(word: &[u8]) -> Result<Val, Refusal>
+    ensures { result ≡ atom_judged (judge_atom word.now) }
 {
-    if n == 0 {
-        return AtomJudged::Not(language::NOT_IN_GRAMMAR);
+    let [first, rest @ ..] = word else {
+        return Err(Refusal::NotInGrammar);
+    };
+    if classes::is_digit(*first) {
+        return judge_integer(word);
     }
-    let b = s[p];
-    if classes::is_digit(b) {
-        return judge_integer(s, p, p + n);
+    if classes::is_letter(*first) {
+        return judge_symbol(word);
     }
-    if classes::is_letter(b) {
-        return judge_symbol(s, p, p + n);
+    if *first != b'-' {
+        return Err(Refusal::NotInGrammar);
     }
-    if b != b'-' {
-        return AtomJudged::Not(language::NOT_IN_GRAMMAR);
-    }
-    judge_negative(s, p + 1, p + n)
+    judge_negative(rest)
 }
 
 // Whether digits are a selector's: from 1 to 255, without a leading zero.
-fn is_selector(s: &[u8], from: usize, to: usize) -> bool
-    requires { (from ≤ to) × (to ≤ length s.now) }
-    ensures { result ≡ is_selector (slice from to s.now) }
+fn is_selector(digits: &[u8]) -> bool
+    ensures { result ≡ is_selector digits.now }
 {
-    if from == to {
+    let [first, ..] = digits else {
+        return false;
+    };
+    if *first == b'0' {
         return false;
     }
-    if s[from] == b'0' {
-        return false;
+    numbers::value(digits) <= language::SELECTOR_LIMIT
+}
+
+// The selector that digits write.
+fn judge_digits(digits: &[u8]) -> Result<u32, Refusal>
+    ensures { result ≡ selector_judged digits.now }
+{
+    if !is_selector(digits) {
+        return Err(Refusal::BadNumber);
     }
-    numbers::value(s, from, to) <= language::SELECTOR_LIMIT
+    Ok(numbers::value(digits) as u32)
 }
 
 // Whether an `r` and nothing more stands there.
-fn is_r(s: &[u8], from: usize, to: usize) -> bool
-    requires { (from ≤ to) × (to ≤ length s.now) }
-    ensures { result ≡ same_bytes (slice from to s.now) (bytes "r") }
+fn is_r(rest: &[u8]) -> bool
+    ensures { result ≡ same_bytes rest.now (bytes "r") }
 {
-    if to - from != 1 {
-        return false;
+    match rest {
+        [b] => *b == b'r',
+        _ => false,
     }
-    s[from] == b'r'
 }
 
 // A selector: digits, or digits and an `r`.
-fn judge_selector(s: &[u8], from: usize, to: usize) -> PartJudged
-    requires { (from ≤ to) × (to ≤ length s.now) }
-    ensures { result ≡ part_judged (judge_selector (slice from to s.now)) }
+fn judge_selector(word: &[u8]) -> Result<Part, Refusal>
+    ensures { result ≡ part_judged (judge_selector word.now) }
 {
-    let end = reader::span_end(s, from, to, Class::Digit);
-    if end == to {
-        if !is_selector(s, from, end) {
-            return PartJudged::Not(language::BAD_NUMBER);
-        }
-        return PartJudged::Select(numbers::value(s, from, end) as u32);
+    let (digits, rest) = word.split_at(reader::span(word, Class::Digit));
+    if rest.is_empty() {
+        return Ok(Part::Select(judge_digits(digits)?));
     }
-    if !is_r(s, end, to) {
-        return PartJudged::Not(language::NOT_IN_GRAMMAR);
+    if !is_r(rest) {
+        return Err(Refusal::NotInGrammar);
     }
-    if !is_selector(s, from, end) {
-        return PartJudged::Not(language::BAD_NUMBER);
-    }
-    PartJudged::SelectRight(numbers::value(s, from, end) as u32)
+    Ok(Part::SelectRight(judge_digits(digits)?))
 }
 
 // A primitive or a name.
-fn judge_plain(s: &[u8], from: usize, to: usize) -> PartJudged
-    requires { (from ≤ to) × (to ≤ length s.now) }
-    ensures { result ≡ part_judged (judge_plain (slice from to s.now)) }
+fn judge_plain(word: &[u8]) -> Result<Part, Refusal>
+    ensures { result ≡ part_judged (judge_plain word.now) }
 {
-    let refused = judge_word(s, from, to, Class::Name);
-    if refused != 0 {
-        return PartJudged::Not(refused);
-    }
-    let code = vocabulary::find_word(s, from, to);
-    if code < codes::NO_WORD {
-        return PartJudged::Primitive(code);
-    }
-    PartJudged::Name(packing::pack(s, from, to))
+    judge_word(word, Class::Name)?;
+    Ok(match vocabulary::find_word(word) {
+        Some(p) => Part::Primitive(p),
+        None => Part::Name(packing::pack(word)),
+    })
 }
 
-// The n bytes at p, where a part may stand.
-pub fn judge_part(s: &[u8], p: usize, n: usize) -> PartJudged
-    requires { p + n ≤ length s.now }
-    ensures { result ≡ part_judged (judge_part (slice p (p + n) s.now)) }
+// The word, number or mark where a part may stand.
+pub fn judge_part(word: &[u8]) -> Result<Part, Refusal>
+    ensures { result ≡ part_judged (judge_part word.now) }
 {
-    if n == 0 {
-        return PartJudged::Not(language::NOT_IN_GRAMMAR);
+    let [first, ..] = word else {
+        return Err(Refusal::NotInGrammar);
+    };
+    if classes::is_digit(*first) {
+        return judge_selector(word);
     }
-    let b = s[p];
-    if classes::is_digit(b) {
-        return judge_selector(s, p, p + n);
+    if classes::is_letter(*first) {
+        return judge_plain(word);
     }
-    if classes::is_letter(b) {
-        return judge_plain(s, p, p + n);
-    }
-    PartJudged::Not(language::NOT_IN_GRAMMAR)
+    Err(Refusal::NotInGrammar)
 }
 
-// The n bytes at p, where a defined name may stand.
-pub fn judge_name(s: &[u8], p: usize, n: usize) -> NameJudged
-    requires { p + n ≤ length s.now }
-    ensures { result ≡ name_judged (judge_name (slice p (p + n) s.now)) }
+// The word, number or mark where a defined name may stand.
+pub fn judge_name(word: &[u8]) -> Result<u64, Refusal>
+    ensures { result ≡ name_judged (judge_name word.now) }
 {
-    if n == 0 {
-        return NameJudged::Not(language::NOT_IN_GRAMMAR);
+    let [first, ..] = word else {
+        return Err(Refusal::NotInGrammar);
+    };
+    if !classes::is_letter(*first) {
+        return Err(Refusal::NotInGrammar);
     }
-    if !classes::is_letter(s[p]) {
-        return NameJudged::Not(language::NOT_IN_GRAMMAR);
+    judge_word(word, Class::Name)?;
+    match vocabulary::find_word(word) {
+        Some(_) => Err(Refusal::NotInGrammar),
+        None => Ok(packing::pack(word)),
     }
-    let refused = judge_word(s, p, p + n, Class::Name);
-    if refused != 0 {
-        return NameJudged::Not(refused);
-    }
-    if vocabulary::find_word(s, p, p + n) < codes::NO_WORD {
-        return NameJudged::Not(language::NOT_IN_GRAMMAR);
-    }
-    NameJudged::Is(packing::pack(s, p, p + n))
 }
 
 // The refusal where nothing that stands at p fits: 9 for a word over 12 characters, 6 for all else.
-pub fn refusal(s: &[u8], p: usize) -> u32
-    ensures { result ≡ refusal_of (word_at s.now p) }
+pub fn refusal(s: &[u8], p: usize) -> Refusal
+    ensures { result ≡ refusal (refusal_of (word_at s.now p)) }
 {
     if !classes::is_letter(classes::byte_at(s, p)) {
-        return language::NOT_IN_GRAMMAR;
+        return Refusal::NotInGrammar;
     }
     if language::WORD_LIMIT < reader::size_at(s, p) {
-        return language::LONG_WORD;
+        return Refusal::LongWord;
     }
-    language::NOT_IN_GRAMMAR
+    Refusal::NotInGrammar
 }

@@ -3,7 +3,6 @@
 #![tactic(auto)]
 
 mod classes;
-pub mod codes;
 mod judging;
 mod numbers;
 mod reader;
@@ -16,10 +15,10 @@ pub use classes::{
 pub use judging::{judge_atom, judge_name, judge_part, refusal};
 pub use numbers::value;
 pub use reader::{next_word, size_at, skip_blanks};
-pub use vocabulary::{cell_rule, find_word, word_byte, word_length};
+pub use vocabulary::{CellRule, NoPrimitive, Primitive, find_word, spelling};
 
-// A class of bytes.
-#[derive(Clone, Copy)]
+// A class of bytes. A class and not a closure: contracts name its test, which each caller would have to hand over as a ghost value.
+#[derive(Clone, Copy, Debug, PartialEq, Eq)]
 pub enum Class {
     Blank,
     Digit,
@@ -31,26 +30,11 @@ pub enum Class {
     Name,
 }
 
-// What stands where an object may stand: an atom, or the number of the answer that refuses it.
-#[derive(Clone, Copy)]
-pub enum AtomJudged {
-    Is(language::Val),
-    Not(u32),
-}
-
-// What stands where a part may stand: a selector, a word of the table by its place there, a name (packed); or the refusal.
-#[derive(Clone, Copy)]
-pub enum PartJudged {
+// What stands where a part may stand: a selector, a primitive word, or a name (packed).
+#[derive(Clone, Copy, Debug, PartialEq, Eq)]
+pub enum Part {
     Select(u32),
     SelectRight(u32),
-    Primitive(u32),
+    Primitive(Primitive),
     Name(u64),
-    Not(u32),
-}
-
-// What stands where a defined name may stand: the name (packed), or the refusal.
-#[derive(Clone, Copy)]
-pub enum NameJudged {
-    Is(u64),
-    Not(u32),
 }

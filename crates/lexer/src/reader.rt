@@ -1,58 +1,56 @@
-// Where the next word, number or mark stands. A place may lie past the text's end: nothing stands there.
-ghost use Rattle.std.specs.Prelude.{◌≤◌, ◌+◌, length};
-ghost use Rattle.lexer.specs.Readings.{Spanned, Skipped, WordSized, NextWord};
+// Where the next word, number or mark stands. A text and a place, and not a slice: a place may lie past the text's end, where
+// nothing stands.
+ghost use Rattle.std.specs.Prelude.{◌≡◌, ◌≤◌, min, length};
+ghost use Rattle.language.specs.Tokens.{span, size};
+ghost use Rattle.lexer.specs.Classes.{test_of};
+ghost use Rattle.lexer.specs.Readings.{Skipped, WordSized, NextWord};
 
 use super::{Class, classes};
 use language::Token;
 
-// Past the bytes of a class, from `from` up to `to`.
-pub fn span_end(s: &[u8], from: usize, to: usize, class: Class) -> usize
-    requires { to ≤ length s.now }
-    ensures { Spanned class s.now from to result }
+// How many bytes at the front of a text are of a class.
+pub fn span(s: &[u8], class: Class) -> usize
+    ensures { (result ≡ span (test_of class) s.now) × (result ≤ length s.now) }
 {
-    let mut i = from;
-    while i < to {
-        if !classes::passes(class, s[i]) {
-            return i;
-        }
-        i += 1;
-    }
-    i
+    s.iter()
+        .position(|b| !classes::passes(class, *b))
+        .unwrap_or(s.len())
 }
 
 // Past the blanks.
 pub fn skip_blanks(s: &[u8], at: usize) -> usize
     ensures { Skipped s.now at result }
 {
-    span_end(s, at, s.len(), Class::Blank)
+    match s.get(at..) {
+        Some(rest) => at + span(rest, Class::Blank),
+        None => at,
+    }
 }
 
-// Past the letters and digits.
-fn word_end(s: &[u8], at: usize) -> usize
-    ensures { Spanned Class.Word s.now at (length s.now) result }
+// How long the word, number or mark at the front is: a run of letters and digits, with a `-` directly before a digit; `->`;
+// or one byte.
+fn size(rest: &[u8]) -> usize
+    ensures is { result ≡ size rest.now }
+    ensures some { min 1 (length rest.now) ≤ result }
+    ensures within { result ≤ length rest.now }
 {
-    span_end(s, at, s.len(), Class::Word)
+    match rest {
+        [] => 0,
+        [b, ..] if classes::is_word_byte(*b) => span(rest, Class::Word),
+        [b'-', d, ..] if classes::is_digit(*d) => 1 + span(&rest[1..], Class::Word),
+        [b'-', b'>', ..] => 2,
+        _ => 1,
+    }
 }
 
-// How long the word, number or mark at p is: a run of letters and digits, with a `-` directly before a digit; `->`; or one byte.
+// How long the word, number or mark at p is.
 pub fn size_at(s: &[u8], p: usize) -> usize
     ensures { WordSized s.now p result }
 {
-    if s.len() <= p {
-        return 0;
+    match s.get(p..) {
+        Some(rest) => size(rest),
+        None => 0,
     }
-    let b = s[p];
-    if classes::is_word_byte(b) {
-        return word_end(s, p + 1) - p;
-    }
-    if b != b'-' {
-        return 1;
-    }
-    let c = classes::byte_at(s, p + 1);
-    if classes::is_digit(c) {
-        return word_end(s, p + 2) - p;
-    }
-    if c == b'>' { 2 } else { 1 }
 }
 
 // The next word, number or mark; at the end and beyond it the text's length and 0.
@@ -66,9 +64,8 @@ pub fn next_word(s: &[u8], at: usize) -> Token
             length: 0,
         };
     }
-    let n = size_at(s, p);
     Token {
         place: p,
-        length: n,
+        length: size_at(s, p),
     }
 }

@@ -1,122 +1,245 @@
-// The table of primitive words with their cell rules: searched by the reader, written from, consulted by the evaluator.
-ghost use Rattle.std.specs.Prelude.{◌≡◌, ◌≤◌, ◌<◌, length, get_or};
-ghost use Rattle.std.proofs.Math.Seq.{slice};
-ghost use Rattle.language.specs.Bytes.{same_bytes};
-ghost use Rattle.language.specs.Words.{ops};
+// The primitive words with their cell rules: searched by the reader, written from, consulted by the evaluator.
+ghost use Rattle.std.specs.Prelude.{◌≡◌, map};
+ghost use Rattle.language.specs.Words.{entry, ops};
 ghost use Rattle.language.specs.Judging.{find_op};
-ghost use Rattle.lexer.specs.Vocabulary.{row_byte, VocabularyRows, spelled_at, rule_at, code_of};
+ghost use Rattle.lexer.specs.Vocabulary.{op_of, op_code, rule_of, HasCode, spelled_at, row_says, all_rows, found};
 
-use super::codes;
-
-// For each word, in the order of the definitions: its cell rule, its length, and its letters up to the seventh place.
-const TABLE: [u8; 207] =
-    *b"02id     02tl     04atom   04null   02eq     02lt     06length 03add    03sub    03mul    03div    03and    02or     03not    15apndl  23tlr    37reverse34rotl   34rotr   45apndr  55distl  55distr  65trans  ";
-
-// All rows: made once for a search, and lent.
-fn table() -> [u8; 207]
-    ensures { VocabularyRows result }
-{
-    TABLE
+// The primitive words of document 01 in the order of its table; the discriminants are the codes that a form table holds.
+#[derive(Clone, Copy, Debug, PartialEq, Eq)]
+pub enum Primitive {
+    Id = 0,
+    Tl = 1,
+    Atom = 2,
+    Null = 3,
+    Eq = 4,
+    Lt = 5,
+    Length = 6,
+    Add = 7,
+    Sub = 8,
+    Mul = 9,
+    Div = 10,
+    And = 11,
+    Or = 12,
+    Not = 13,
+    Apndl = 14,
+    Tlr = 15,
+    Reverse = 16,
+    Rotl = 17,
+    Rotr = 18,
+    Apndr = 19,
+    Distl = 20,
+    Distr = 21,
+    Trans = 22,
 }
 
-// The byte j of a word's row.
-fn row_byte(rows: &[u8; 207], code: u32, j: usize) -> u8
-    requires { VocabularyRows rows.now × (code ≤ 22) × (j < 9) }
-    ensures { result ≡ row_byte code j }
-{
-    rows[(code as usize) * 9 + j]
+// How many cells a word asks for, of n places: by the table, and for the last rule of n rows of m.
+#[derive(Clone, Copy, Debug, PartialEq, Eq)]
+pub enum CellRule {
+    NoCell,
+    // one cell
+    One,
+    // n - 1 cells
+    OneLess,
+    // n cells
+    AsMany,
+    // n + 1 cells
+    OneMore,
+    // 3n cells
+    ThreeEach,
+    // m + m * n cells
+    Rows,
 }
 
-// The length of the word in row `code`, 0 past the table.
-fn row_length(rows: &[u8; 207], code: u32) -> usize
-    requires { VocabularyRows rows.now }
-    ensures { (result ≡ length (spelled_at code)) × (result ≤ 7) }
-{
-    if codes::TRANS < code {
-        return 0;
-    }
-    (row_byte(rows, code, 1) - b'0') as usize
+// A number that is no primitive word's code.
+#[derive(Clone, Copy, Debug, PartialEq, Eq)]
+pub struct NoPrimitive(pub u32);
+
+// A row of the table: a word, its letters and its cell rule.
+struct Row {
+    word: Primitive,
+    letters: &'static [u8],
+    rule: CellRule,
 }
 
-// The byte i of the word in row `code`, 0 past its end.
-fn row_letter(rows: &[u8; 207], code: u32, i: usize) -> u8
-    requires { VocabularyRows rows.now }
-    ensures { result ≡ get_or (spelled_at code) i 0 }
+// The table of the primitive words, each at its code.
+const TABLE: [Row; 23] = [
+    Row {
+        word: Primitive::Id,
+        letters: b"id",
+        rule: CellRule::NoCell,
+    },
+    Row {
+        word: Primitive::Tl,
+        letters: b"tl",
+        rule: CellRule::NoCell,
+    },
+    Row {
+        word: Primitive::Atom,
+        letters: b"atom",
+        rule: CellRule::NoCell,
+    },
+    Row {
+        word: Primitive::Null,
+        letters: b"null",
+        rule: CellRule::NoCell,
+    },
+    Row {
+        word: Primitive::Eq,
+        letters: b"eq",
+        rule: CellRule::NoCell,
+    },
+    Row {
+        word: Primitive::Lt,
+        letters: b"lt",
+        rule: CellRule::NoCell,
+    },
+    Row {
+        word: Primitive::Length,
+        letters: b"length",
+        rule: CellRule::NoCell,
+    },
+    Row {
+        word: Primitive::Add,
+        letters: b"add",
+        rule: CellRule::NoCell,
+    },
+    Row {
+        word: Primitive::Sub,
+        letters: b"sub",
+        rule: CellRule::NoCell,
+    },
+    Row {
+        word: Primitive::Mul,
+        letters: b"mul",
+        rule: CellRule::NoCell,
+    },
+    Row {
+        word: Primitive::Div,
+        letters: b"div",
+        rule: CellRule::NoCell,
+    },
+    Row {
+        word: Primitive::And,
+        letters: b"and",
+        rule: CellRule::NoCell,
+    },
+    Row {
+        word: Primitive::Or,
+        letters: b"or",
+        rule: CellRule::NoCell,
+    },
+    Row {
+        word: Primitive::Not,
+        letters: b"not",
+        rule: CellRule::NoCell,
+    },
+    Row {
+        word: Primitive::Apndl,
+        letters: b"apndl",
+        rule: CellRule::One,
+    },
+    Row {
+        word: Primitive::Tlr,
+        letters: b"tlr",
+        rule: CellRule::OneLess,
+    },
+    Row {
+        word: Primitive::Reverse,
+        letters: b"reverse",
+        rule: CellRule::AsMany,
+    },
+    Row {
+        word: Primitive::Rotl,
+        letters: b"rotl",
+        rule: CellRule::AsMany,
+    },
+    Row {
+        word: Primitive::Rotr,
+        letters: b"rotr",
+        rule: CellRule::AsMany,
+    },
+    Row {
+        word: Primitive::Apndr,
+        letters: b"apndr",
+        rule: CellRule::OneMore,
+    },
+    Row {
+        word: Primitive::Distl,
+        letters: b"distl",
+        rule: CellRule::ThreeEach,
+    },
+    Row {
+        word: Primitive::Distr,
+        letters: b"distr",
+        rule: CellRule::ThreeEach,
+    },
+    Row {
+        word: Primitive::Trans,
+        letters: b"trans",
+        rule: CellRule::Rows,
+    },
+];
+
+// The table, lent.
+fn table() -> &'static [Row; 23]
+    ensures { map row_says result.now ≡ all_rows }
 {
-    if codes::TRANS < code {
-        return 0;
-    }
-    if row_length(rows, code) <= i {
-        return 0;
-    }
-    row_byte(rows, code, i + 2)
+    &TABLE
 }
 
-// The cell rule of the word with this code, 0 past the table.
-pub fn cell_rule(code: u32) -> u32
-    ensures { result ≡ rule_at code }
-{
-    if codes::TRANS < code {
-        return 0;
+impl Primitive {
+    // The word's letters.
+    pub fn spelled(self) -> &'static [u8]
+        ensures { result.now ≡ (entry (op_of self)).spelled }
+    {
+        table()[self as usize].letters
     }
+
+    // How many cells the word asks for.
+    pub fn rule(self) -> CellRule
+        ensures { result ≡ rule_of (entry (op_of self)).rule }
+    {
+        table()[self as usize].rule
+    }
+}
+
+impl From<Primitive> for u32 {
+    ghost from_gives = { λ p n. n ≡ op_code (op_of p) };
+
+    fn from(p: Primitive) -> u32 {
+        p as u32
+    }
+}
+
+impl TryFrom<u32> for Primitive {
+    type Error = NoPrimitive;
+
+    ghost try_from_gives = { HasCode };
+
+    fn try_from(code: u32) -> Result<Primitive, NoPrimitive> {
+        let rows = table();
+        rows.get(code as usize)
+            .map(|row| row.word)
+            .ok_or(NoPrimitive(code))
+    }
+}
+
+// The letters of the word with this code; none past the table.
+pub fn spelling(code: u32) -> &'static [u8]
+    ensures { result.now ≡ spelled_at code }
+{
+    match Primitive::try_from(code) {
+        Ok(p) => p.spelled(),
+        Err(_) => b"",
+    }
+}
+
+// The primitive word that is spelled so, if there is one.
+pub fn find_word(word: &[u8]) -> Option<Primitive>
+    ensures { result ≡ found (find_op ops word.now) }
+{
     let rows = table();
-    (row_byte(&rows, code, 0) - b'0') as u32
-}
-
-// The length of the word with this code, 0 past the table.
-pub fn word_length(code: u32) -> usize
-    ensures { (result ≡ length (spelled_at code)) × (result ≤ 7) }
-{
-    let rows = table();
-    row_length(&rows, code)
-}
-
-// The byte i of the word with this code, 0 past its end.
-pub fn word_byte(code: u32, i: usize) -> u8
-    ensures { result ≡ get_or (spelled_at code) i 0 }
-{
-    let rows = table();
-    row_letter(&rows, code, i)
-}
-
-// Whether the bytes from `from` up to `to` are the word in row `code`.
-fn word_is(rows: &[u8; 207], s: &[u8], from: usize, to: usize, code: u32) -> bool
-    requires { VocabularyRows rows.now × (from ≤ to) × (to ≤ length s.now) }
-    ensures { result ≡ same_bytes (spelled_at code) (slice from to s.now) }
-{
-    if row_length(rows, code) != to - from {
-        return false;
-    }
-    let mut i = from;
-    while i < to {
-        if row_letter(rows, code, i - from) != s[i] {
-            return false;
-        }
-        i += 1;
-    }
-    true
-}
-
-// The first row whose word stands from `from` up to `to`, 23 if none does.
-fn find_row(rows: &[u8; 207], s: &[u8], from: usize, to: usize) -> u32
-    requires { VocabularyRows rows.now × (from ≤ to) × (to ≤ length s.now) }
-    ensures { result ≡ code_of (find_op ops (slice from to s.now)) }
-{
-    let mut code: u32 = 0;
-    while code < codes::NO_WORD {
-        if word_is(rows, s, from, to, code) {
-            return code;
-        }
-        code += 1;
-    }
-    code
-}
-
-// The code of the word that stands from `from` up to `to`, 23 if none does.
-pub fn find_word(s: &[u8], from: usize, to: usize) -> u32
-    requires { (from ≤ to) × (to ≤ length s.now) }
-    ensures { result ≡ code_of (find_op ops (slice from to s.now)) }
-{
-    let rows = table();
-    find_row(&rows, s, from, to)
+    rows.iter()
+        .find(|row| row.letters == word)
+        .map(|row| row.word)
 }

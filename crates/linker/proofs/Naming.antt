@@ -1,7 +1,7 @@
 -- A name's root: found from the first definition on, or along the links of the index.
 use Prim.Native.Nat.{ℕ, zero, suc, ◌+◌, ◌-◌, ◌*◌, ◌%◌, ◌≤◌, ◌<◌}
 use native.Mathlib.Omega.{arith}
-use mathlib.Core.Path.{◌≡◌, refl, sym, ap, subst, ◌∙◌}
+use mathlib.Core.Path.{◌≡◌, refl, sym, ap, ◌∙◌}
 use mathlib.Core.Bool.{Bool, true, false, cond}
 use mathlib.Core.List.{List}
 use lib.Dec.{eqb}
@@ -10,16 +10,14 @@ use lib.Seq.{get_or-set_same, get_or-set_other}
 use borrow.Author.Tests.{ne_eqb, eqb-true, eqb-false}
 use Rattle.tables.specs.Tables.{field}
 use Rattle.formtable.specs.Encoding.{named}
-use Rattle.linker.specs.Roots.{root_from}
+use Rattle.std.specs.Prelude.{Some}
+use Rattle.linker.specs.Roots.{root_by, root_from}
 use Rattle.linker.specs.Indexing.{low_at, Leads, Entered, Indexed}
 
 -- what is found from here on is what is found from the start on
 pub record Finding (D : List ℕ) (many lo hi d : ℕ) : Type 0 where
   pub most : d ≤ many
   pub whole : root_from D many lo hi 0 ≡ root_from D (many - d) lo hi d
-
-pub find_start : {D : List ℕ} {many lo hi : ℕ} → Finding D many lo hi 0
-find_start {D} {many} {lo} {hi} = record { most = omega arith; whole = ap (λ (k : ℕ). root_from D k lo hi 0) (omega arith) }
 
 one_here : (D : List ℕ) (left lo hi d : ℕ) → 0 < left → root_from D left lo hi d ≡ cond (named D d lo hi) ((field D d 2 + 1) % 4294967296) (root_from D (left - 1) lo hi (d + 1))
 unfolding root_from
@@ -32,8 +30,8 @@ find_next {D} {many} {lo} {hi} {d} l w e f = record {
   whole = w.whole ∙ one_here D (many - d) lo hi d (omega arith) ∙ ap (λ x. cond x ((field D d 2 + 1) % 4294967296) (root_from D (many - d - 1) lo hi (d + 1))) (sym e ∙ f) ∙ ap (λ (k : ℕ). root_from D k lo hi (d + 1)) (omega arith);
 }
 
-pub find_here : {D : List ℕ} {many lo hi d root : ℕ} {b : Bool} → d < many → Finding D many lo hi d → b ≡ named D d lo hi → b ≡ true → root ≡ (field D d 2 + 1) % 4294967296 → root ≡ root_from D many lo hi 0
-find_here {D} {many} {lo} {hi} {d} l w e f g = g ∙ sym (w.whole ∙ one_here D (many - d) lo hi d (omega arith) ∙ ap (λ x. cond x ((field D d 2 + 1) % 4294967296) (root_from D (many - d - 1) lo hi (d + 1))) (sym e ∙ f))
+pub find_here : {D : List ℕ} {many lo hi d : ℕ} {b : Bool} → d < many → Finding D many lo hi d → b ≡ named D d lo hi → b ≡ true → root_by D (Some d) ≡ root_from D many lo hi 0
+find_here {D} {many} {lo} {hi} {d} l w e f = sym (w.whole ∙ one_here D (many - d) lo hi d (omega arith) ∙ ap (λ x. cond x ((field D d 2 + 1) % 4294967296) (root_from D (many - d - 1) lo hi (d + 1))) (sym e ∙ f))
 
 none_here : (D : List ℕ) (left lo hi d : ℕ) → left ≡ 0 → root_from D left lo hi d ≡ 0
 unfolding root_from
@@ -71,9 +69,6 @@ zeros (suc n) (suc i) = zeros n i
 length_zeros : (n : ℕ) → length (replicate {A = ℕ} n 0) ≡ n
 length_zeros zero = refl
 length_zeros (suc n) = ap suc (length_zeros n)
-
-pub index_far : {D X : List ℕ} {many : ℕ} → 128 < many → Indexed D many X
-index_far h = record { entered = λ l. absurd (omega arith) }
 
 pub index_start : {D X : List ℕ} {many : ℕ} → X ≡ replicate 384 0 → Entered D many 0 X
 index_start {D} {X} {many} e = record {
@@ -131,19 +126,22 @@ module _ {D X : List ℕ} {many left first behind : ℕ} (few : many ≤ 128) (m
     behind = behind_more;
   }
 
-pub record Indexing (D : List ℕ) (many : ℕ) (X : List ℕ) (left : ℕ) : Type 0 where
+-- the definitions from d on are in the index
+pub record Indexing (D : List ℕ) (many : ℕ) (X : List ℕ) (d : ℕ) : Type 0 where
   pub few : many ≤ 128
-  pub most : left ≤ many
-  pub now : Entered D many left X
+  pub most : d ≤ many
+  pub now : Entered D many (many - d) X
 
-pub indexing_start : {D X : List ℕ} {many : ℕ} → many ≤ 128 → X ≡ replicate 384 0 → Indexing D many X 0
-indexing_start l e = record { few = l; most = omega arith; now = index_start e }
+pub indexing_start : {D X : List ℕ} {many : ℕ} → many ≤ 128 → X ≡ replicate 384 0 → Indexing D many X many
+indexing_start {many = many} l e = let z : many - many ≡ 0 = omega arith in record { few = l; most = omega arith; now = rw z (index_start e) }
 
-pub indexing_next : {D X X₁ X₂ : List ℕ} {many left low behind : ℕ} → left < many → Indexing D many X left → low ≡ get_or D ((many - (left + 1)) * 4) 0 → behind ≡ get_or X (low % 256) 0 → X₁ ≡ set X (left + 1 + 255) behind → X₂ ≡ set X₁ (low % 256) (left + 1) → Indexing D many X₂ (left + 1)
-indexing_next l w e b z₁ z₂ = rw (z₂, z₁) (record { few = w.few; most = omega arith; now = entered_more w.few l w.now (ap (λ (i : ℕ). i % 256) e) b })
-
-pub indexing_end : {D X : List ℕ} {many left : ℕ} → many ≤ left → Indexing D many X left → Indexed D many X
-indexing_end {D} {X} {many} {left} l w = let z : left ≡ many = omega (arith, w.most) in record { entered = λ h. subst (λ (k : ℕ). Entered D many k X) z w.now }
+pub indexing_next : {D X : List ℕ} {many d low left : ℕ} → 0 < d → Indexing D many X d → low ≡ get_or D ((d - 1) * 4) 0 → left ≡ many - (d - 1) → Indexing D many (set (set X (left + 255) (get_or X (low % 256) 0)) (low % 256) left) (d - 1)
+indexing_next {D} {X} {many} {d} {low} {left} h w e f =
+    let a : left ≡ many - d + 1 = omega (arith, w.most) in
+    let b : many - (d - 1) ≡ many - d + 1 = omega (arith, w.most) in
+    let k : d - 1 ≡ many - (many - d + 1) = omega (arith, w.most) in
+    let first : low % 256 ≡ low_at D (many - (many - d + 1)) = ap (λ (i : ℕ). i % 256) e ∙ ap (λ (i : ℕ). low_at D i) k in
+    rw a (record { few = w.few; most = omega (arith, w.most); now = rw b (entered_more w.few (omega (arith, w.most)) w.now first refl) })
 
 -- ---- along the links
 pub record Seeking (D : List ℕ) (many lo hi left : ℕ) : Type 0 where
@@ -170,9 +168,9 @@ seek_less {lo = lo} {hi} {left} l w s g = let h = (w.entered s.few).behind left 
 from_all : (D : List ℕ) (many lo hi : ℕ) → root_from D many lo hi 0 ≡ root_from D many lo hi (many - many)
 from_all D many lo hi = ap (λ (d : ℕ). root_from D many lo hi d) (omega arith)
 
-pub seek_here : {D : List ℕ} {many lo hi left root : ℕ} {b : Bool} → 0 < left → Seeking D many lo hi left → b ≡ named D (many - left) lo hi → b ≡ true → root ≡ (field D (many - left) 2 + 1) % 4294967296 → root ≡ root_from D many lo hi 0
-seek_here {D} {many} {lo} {hi} {left} l s e f g =
-    g ∙ sym (from_all D many lo hi ∙ s.leads.found ∙ one_here D left lo hi (many - left) l ∙ ap (λ x. cond x ((field D (many - left) 2 + 1) % 4294967296) (root_from D (left - 1) lo hi (many - left + 1))) (sym e ∙ f))
+pub seek_here : {D : List ℕ} {many lo hi left : ℕ} {b : Bool} → 0 < left → Seeking D many lo hi left → b ≡ named D (many - left) lo hi → b ≡ true → root_by D (Some (many - left)) ≡ root_from D many lo hi 0
+seek_here {D} {many} {lo} {hi} {left} l s e f =
+    sym (from_all D many lo hi ∙ s.leads.found ∙ one_here D left lo hi (many - left) l ∙ ap (λ x. cond x ((field D (many - left) 2 + 1) % 4294967296) (root_from D (left - 1) lo hi (many - left + 1))) (sym e ∙ f))
 
 pub seek_end : {D : List ℕ} {many lo hi left : ℕ} → left ≤ 0 → Seeking D many lo hi left → 0 ≡ root_from D many lo hi 0
 seek_end {D} {many} {lo} {hi} {left} l s = sym (from_all D many lo hi ∙ s.leads.found ∙ none_here D left lo hi (many - left) (omega arith))

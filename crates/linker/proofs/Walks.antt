@@ -17,7 +17,7 @@ use Rattle.formtable.specs.Standing.{parts}
 use Rattle.linker.specs.declared.Turned.{Turned}
 use Rattle.linker.specs.Linked.{grouped, linked_kind_at, link_at}
 use Rattle.linker.specs.Roots.{root_from, root_in, link_set}
-use Rattle.linker.specs.Linking.{LinkedRow, row_op, row_select, row-select-right, row_name, row_construct, row_insert, row_all, row_condition, row_while, row_constant, row_bu, Tree, tree, tree_chain, Kids, no_kid, a_kid, Back, no_back, a_back, Walked, Before, Reversed, OneLinked, AllLinked}
+use Rattle.linker.specs.Linking.{LinkedRow, row_op, row_select, row-select-right, row_name, row_construct, row_insert, row_all, row_condition, row_while, row_constant, row_bu, Tree, tree, tree_chain, Kids, no_kid, a_kid, Back, no_back, a_back, Walked, Before, Reversed, OneLinked}
 use Rattle.linker.proofs.Trees.{Keeps, forms_end, forms_join, tree_up, kids_up, back_up, tree_small, constant_kept, tree_kept, kids_kept, back_kept}
 use Rattle.formtable.proofs.Standing.{stands_up, arity_of}
 use Rattle.linker.proofs.Records.{parts_formed, both_formed, constant_of, row_same}
@@ -282,8 +282,3 @@ link_next {t₀} {t} {D = D} {total} {many} {i} z w o ln =
       fits = omega (arith, w.fits);
       means = λ C n gs a b g s. step_link (omega (arith, w.fits)) a (omega (arith, w.long)) (λ hs k st. subst (λ (j : ℕ). AllNow t₀ C n (root_in D many) total hs t j) (sym y) (w.means C n hs a b k (subst (λ (j : ℕ). S.Stands t₀ C n j hs total) y st))) o g s;
     }
-
-pub link_end : {t₀ t D : List ℕ} {total many i : ℕ} → i ≤ 0 → Linking t₀ total D many t i → AllLinked t₀ total D many t
-link_end {t₀} {t} {D} {total} {many} {i} z w =
-    let y : i ≡ 0 = omega arith in
-    record { means = λ C n fs a b g s. subst (λ (j : ℕ). Kids t C n (root_in D many) j fs total) y (w.means C n fs a b g (subst (λ (j : ℕ). S.Stands t₀ C n j fs total) (sym y) s)).linked }

@@ -1,5 +1,5 @@
 -- Where the body of a name begins, by the table of definitions; and a record's link.
-use Rattle.std.specs.Prelude.{ℕ, zero, suc, ◌+◌, ◌*◌, ◌/◌, ◌%◌, cond, List, get_or, set}
+use Rattle.std.specs.Prelude.{ℕ, zero, suc, ◌+◌, ◌*◌, ◌/◌, ◌%◌, cond, List, get_or, set, Option, None, Some}
 use Rattle.packing.specs.Packing.{packed}
 use Rattle.tables.specs.Tables.{field}
 use Rattle.formtable.specs.Encoding.{named}
@@ -8,6 +8,11 @@ use Rattle.formtable.specs.Encoding.{named}
 unfoldable pub root_from : List ℕ → ℕ → ℕ → ℕ → ℕ → ℕ
 root_from D zero lo hi d = 0
 root_from D (suc left) lo hi d = cond (named D d lo hi) ((field D d 2 + 1) % 4294967296) (root_from D left lo hi (d + 1))
+
+-- the root of a definition that was found, and one; 0 if none was
+abbrev pub root_by : List ℕ → Option ℕ → ℕ
+root_by D None = 0
+root_by D (Some d) = (field D d 2 + 1) % 4294967296
 
 -- of a name, by how it is packed
 abbrev pub root_in : List ℕ → ℕ → List ℕ → ℕ

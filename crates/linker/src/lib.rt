@@ -4,11 +4,11 @@
 
 ghost use Rattle.std.specs.Prelude.{◌≡◌, ◌+◌, ◌*◌, ◌/◌, ◌%◌, ◌<◌, get_or};
 ghost use Rattle.linker.specs.Roots.{link_set};
-ghost use Rattle.linker.specs.Indexing.{Indexed};
 ghost use Rattle.linker.specs.Linking.{Walked, Reversed, OneLinked, AllLinked};
 
 mod names;
 
+use names::Names;
 pub use names::root_of;
 
 // A record's first number is its kind and this many times its link.
@@ -34,16 +34,14 @@ fn walk(t: &[u32], start: u32, n: u32) -> u32
     ensures { Walked t.now start n result }
 {
     let mut j = start;
-    let mut q: u32 = 0;
-    while q < n {
+    for _ in 0..n {
         j = next(t, j);
-        q += 1;
     }
     j
 }
 
 // The last of n forms, and their end.
-#[derive(Clone, Copy)]
+#[derive(Clone, Copy, Debug, PartialEq, Eq)]
 struct Turned {
     last: u32,
     rest: u32,
@@ -55,13 +53,11 @@ fn reverse(t: &mut [u32], start: u32, n: u32) -> Turned
 {
     let mut j = start;
     let mut before: u32 = 0;
-    let mut q: u32 = 0;
-    while q < n {
+    for _ in 0..n {
         let behind = next(t, j);
         set_link(t, j, before);
         before = j;
         j = behind;
-        q += 1;
     }
     Turned {
         last: before,
@@ -70,43 +66,36 @@ fn reverse(t: &mut [u32], start: u32, n: u32) -> Turned
 }
 
 // Links the form at i, whose parts and all that follows them are linked: it leads to what follows its parts.
-fn link_one(t: &mut [u32], i: u32, defs: &[u32], count: u32, index: &[u32])
-    requires { (i < 4294967295) × Indexed defs.now count index.now }
-    ensures { OneLinked t.old i defs.now count t.new }
+fn link_one(t: &mut [u32], i: u32, names: &Names)
+    requires { i < 4294967295 }
+    ensures { OneLinked t.old i names.now.definitions.now names.now.count t.new }
 {
     let k = i as usize * 4;
-    let kind = tables::at(t, k) % KINDS;
     let arity = tables::at(t, k + 1);
-    if kind == formtable::CHAIN {
-        let r = reverse(t, i + 1, arity);
-        tables::store(t, k + 2, r.last);
-        set_link(t, i, r.rest);
-        return;
+    match tables::at(t, k) % KINDS {
+        formtable::CHAIN => {
+            let r = reverse(t, i + 1, arity);
+            tables::store(t, k + 2, r.last);
+            set_link(t, i, r.rest);
+        }
+        formtable::NAME => {
+            let root = names.root(tables::at(t, k + 2), tables::at(t, k + 3));
+            tables::store(t, k + 1, root);
+            set_link(t, i, i + 1);
+        }
+        _ => {
+            let rest = walk(t, i + 1, arity);
+            set_link(t, i, rest);
+        }
     }
-    if kind == formtable::NAME {
-        let root = names::find(
-            index,
-            defs,
-            count,
-            tables::at(t, k + 2),
-            tables::at(t, k + 3),
-        );
-        tables::store(t, k + 1, root);
-        set_link(t, i, i + 1);
-        return;
-    }
-    let rest = walk(t, i + 1, arity);
-    set_link(t, i, rest);
 }
 
 // Links the first `total` records, from the last to the first; names by the first `count` definitions.
-pub fn link(t: &mut [u32], total: u32, defs: &[u32], count: u32)
-    ensures { AllLinked t.old total defs.now count t.new }
+pub fn link(t: &mut [u32], total: u32, definitions: &[u32], count: u32)
+    ensures { AllLinked t.old total definitions.now count t.new }
 {
-    let index = names::index(defs, count);
-    let mut i = total;
-    while 0 < i {
-        i -= 1;
-        link_one(t, i, defs, count, &index);
+    let names = Names::new(definitions, count);
+    for i in (0..total).rev() {
+        link_one(t, i, &names);
     }
 }

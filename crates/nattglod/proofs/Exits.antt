@@ -1,5 +1,5 @@
 -- Each way out of a run call: 1 to 5; a text refused; 13; the run's end; and the tables, zeroed after all but 1 to 5.
-use Prim.Native.Nat.{ℕ, suc, ◌+◌, ◌-◌, ◌*◌, ◌≤◌, ◌<◌}
+use Prim.Native.Nat.{ℕ, ◌+◌, ◌-◌, ◌*◌, ◌≤◌, ◌<◌}
 use mathlib.Core.Path.{◌≡◌, refl, ap, sym, ◌∙◌}
 use mathlib.Core.Bool.{Bool, true, false, cond, ◌||◌, not}
 use mathlib.Core.List.{List}
@@ -14,49 +14,53 @@ use Rattle.language.specs.Writing.{write_obj, Scan, on, short, deep, scan}
 use Rattle.language.specs.Numbers.{one}
 use Rattle.language.specs.Evaluation.{apply, RunEnd, done, fell, ran_out, too_few, counted, run}
 use Rattle.language.specs.Answers.{Lent, Outcome, bare, at, untouched, room_in, scanned, ended, on_read, run_call}
+use Rattle.std.specs.Prelude.{Result, Ok, Err}
+use Rattle.language.specs.Refusals.{number_of}
+use Rattle.language.specs.declared.refusals.Refusal.{Refusal}
+use Rattle.language.specs.declared.refusals.Refusal.TheVariants.{LongProgram, LongObject, StepsOver, NamesOver, CellsOver}
 use Rattle.language.specs.declared.Meter.{Meter}
 use Rattle.language.specs.declared.Answer.{Answer}
 use Rattle.nattglod.specs.Calls.{budgets, lends, RunAnswered, early_refusal, WithinLimits, on_texts, TextsAnswered, EndAnswered}
 
 -- ---- 1 to 5, or none of them
 module _ (program object : List ℕ) (b : Meter) (lent : Lent) where
-  abbrev early : ℕ
+  abbrev early : Result (Unit {0}) Refusal
   early = early_refusal (length program) (length object) b (length lent.forms) (length lent.cells)
 
-  -- what the call is, and what holds, by the refusal k
-  abbrev By : Outcome → ℕ → Type 0
-  By o k = ((k ≡ 0 → ⊥) → o ≡ untouched k lent) × (k ≡ 0 → o ≡ on_texts program object b lent)
+  -- what the call is, by what refuses it early
+  abbrev By : Outcome → Result (Unit {0}) Refusal → Type 0
+  By o (Ok u) = o ≡ on_texts program object b lent
+  By o (Err r) = o ≡ untouched (number_of r) lent
 
-  by_cond : (t : Bool) (n : ℕ) (o : Outcome) (k : ℕ) → By o k → By (cond t (untouched (suc n) lent) o) (cond t (suc n) k)
-  by_cond true n o k h = (λ f. refl, λ e. absurd (omega arith))
-  by_cond false n o k h = h
+  by_cond : (t : Bool) (r : Refusal) (o : Outcome) (k : Result (Unit {0}) Refusal) → By o k → By (cond t (untouched (number_of r) lent) o) (cond t (Err r) k)
+  by_cond true r o k h = refl
+  by_cond false r o k h = h
 
   by_early : By (run_call program object b lent) early
   unfolding run_call early_refusal on_texts
   by_early =
-      by_cond (ltb 8192 (length program)) 0 _ _
-      (by_cond (ltb 16384 (length object)) 1 _ _
-      (by_cond (ltb 1000000 b.steps) 2 _ _
-      (by_cond (ltb 256 b.names) 3 _ _
-      (by_cond (ltb 4096 b.cells || not (eqb (length lent.forms) 8192) || not (eqb (length lent.cells) (4 * b.cells))) 4 _ 0
-      (λ f. absurd (f refl), λ e. refl)))))
+      by_cond (ltb 8192 (length program)) LongProgram _ _
+      (by_cond (ltb 16384 (length object)) LongObject _ _
+      (by_cond (ltb 1000000 b.steps) StepsOver _ _
+      (by_cond (ltb 256 b.names) NamesOver _ _
+      (by_cond (ltb 4096 b.cells || not (eqb (length lent.forms) 8192) || not (eqb (length lent.cells) (4 * b.cells))) CellsOver _ (Ok tt) refl))))
 
-no_early : (t : Bool) (n k : ℕ) → cond t (suc n) k ≡ 0 → (t ≡ false) × (k ≡ 0)
-no_early true n k e = absurd (omega arith)
-no_early false n k e = (refl, e)
+no_early : (t : Bool) (r : Refusal) (k : Result (Unit {0}) Refusal) → cond t (Err r) k ≡ Ok tt → (t ≡ false) × (k ≡ Ok tt)
+no_early true r k e = let z : ◌≡◌ {A = ℕ} 0 1 = cc in absurd (omega arith)
+no_early false r k e = (refl, e)
 
 neither : (s t : Bool) → (s || t) ≡ false → (s ≡ false) × (t ≡ false)
 neither true t e = let z : ◌≡◌ {A = ℕ} 0 1 = cc in absurd (omega arith)
 neither false t e = (refl, e)
 
-sized : (program object : ℕ) (b : Meter) (forms cells : ℕ) → early_refusal program object b forms cells ≡ 0 → WithinLimits program object b forms cells
+sized : (program object : ℕ) (b : Meter) (forms cells : ℕ) → early_refusal program object b forms cells ≡ Ok tt → WithinLimits program object b forms cells
 unfolding early_refusal
 sized program object b forms cells e =
-    let h₁ = no_early (ltb 8192 program) 0 _ e in
-    let h₂ = no_early (ltb 16384 object) 1 _ h₁.1 in
-    let h₃ = no_early (ltb 1000000 b.steps) 2 _ h₂.1 in
-    let h₄ = no_early (ltb 256 b.names) 3 _ h₃.1 in
-    let h₅ = no_early (ltb 4096 b.cells || not (eqb forms 8192) || not (eqb cells (4 * b.cells))) 4 0 h₄.1 in
+    let h₁ = no_early (ltb 8192 program) LongProgram _ e in
+    let h₂ = no_early (ltb 16384 object) LongObject _ h₁.1 in
+    let h₃ = no_early (ltb 1000000 b.steps) StepsOver _ h₂.1 in
+    let h₄ = no_early (ltb 256 b.names) NamesOver _ h₃.1 in
+    let h₅ = no_early (ltb 4096 b.cells || not (eqb forms 8192) || not (eqb cells (4 * b.cells))) CellsOver (Ok tt) h₄.1 in
     let n₁ = neither (ltb 4096 b.cells || not (eqb forms 8192)) (not (eqb cells (4 * b.cells))) h₅.0 in
     let n₂ = neither (ltb 4096 b.cells) (not (eqb forms 8192)) n₁.0 in
     record {
@@ -94,22 +98,21 @@ module _ (lent : Lent) where
   unfolding on_texts
   zeroed_texts program object b = zeroed_read 1 (read_program program) _ (λ P. zeroed_read 2 (read_object object) _ (λ x. zeroed_end (run one P x b)))
 
--- ---- the whole call, by its early refusal k
-module _ (program object : List ℕ) (b : Meter) (forms cells output : List ℕ) {k : ℕ} (is-early : k ≡ early_refusal (length program) (length object) b (length forms) (length cells)) where
-  pub run_refused : {r : Answer} → (k ≡ 0 → ⊥) → r ≡ bare k → RunAnswered program object b (lends forms cells output) r forms cells output
+-- ---- the whole call, by its early refusal
+module _ (program object : List ℕ) (b : Meter) (forms cells output : List ℕ) {k : Result (Unit {0}) Refusal} (is-early : k ≡ early_refusal (length program) (length object) b (length forms) (length cells)) where
+  pub run_refused : {r : Answer} {w : Refusal} → k ≡ Err w → r ≡ bare (number_of w) → RunAnswered program object b (lends forms cells output) r forms cells output
   run_refused n a =
-      let e = rw (← is-early) at (by_early program object b (lends forms cells output)).0 in
-      let o = e n in
+      let o = rw (← is-early, n) at (by_early program object b (lends forms cells output)) in
       record { answer = a ∙ ap (λ (x : Outcome). x.answer) (sym o); forms_after = ap (λ (x : Outcome). x.lent.forms) (sym o); cells_after = ap (λ (x : Outcome). x.lent.cells) (sym o); output_after = ap (λ (x : Outcome). x.lent.output) (sym o) }
 
-  module _ (none : k ≡ 0) where
+  module _ (none : k ≡ Ok tt) where
     pub run_sized : WithinLimits (length program) (length object) b (length forms) (length cells)
     run_sized = sized (length program) (length object) b (length forms) (length cells) (sym is-early ∙ none)
 
     pub run_texts : {r : Answer} (forms₁ cells₁ : List ℕ) {forms₂ cells₂ output₂ : List ℕ} → TextsAnswered program object b (lends forms cells output) r output₂ → length forms₁ ≡ length forms → length cells₁ ≡ length cells
         → forms₂ ≡ replicate (length forms₁) 0 → cells₂ ≡ replicate (length cells₁) 0 → RunAnswered program object b (lends forms cells output) r forms₂ cells₂ output₂
     run_texts forms₁ cells₁ t lf lc zf zc =
-        let o = (by_early program object b (lends forms cells output)).1 (sym is-early ∙ none) in
+        let o = rw (← is-early, none) at (by_early program object b (lends forms cells output)) in
         let z = zeroed_texts (lends forms cells output) program object b in
         record {
           answer = t.answer ∙ ap (λ (x : Outcome). x.answer) (sym o);

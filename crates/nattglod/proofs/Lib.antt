@@ -1,6 +1,5 @@
 -- The laws that the proofs of nattglod cite, and the theorems on its contracts.
 pub mod Determined
-pub mod Early
 pub mod Ended
 pub mod Exits
 pub mod Standing

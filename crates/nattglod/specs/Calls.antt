@@ -1,11 +1,13 @@
 -- A run call: what it answers and leaves in the lent buffers, and the parts that its code is made of.
-use Rattle.std.specs.Prelude.{ℕ, ◌≤◌, ◌≡◌, cond, ◌||◌, not, List, ltb, eqb}
+use Rattle.std.specs.Prelude.{ℕ, ◌≤◌, ◌≡◌, cond, ◌||◌, not, List, ltb, eqb, Result, Ok, Err}
 use Rattle.language.specs.Objects.{Obj}
 use Rattle.language.specs.Reading.{read_object, read_program}
 use Rattle.language.specs.Numbers.{one, program_limit, object_limit, step_limit, name_limit, cell_limit, form_table_size, cell_table_size}
 use Rattle.language.specs.Evaluation.{Out, counted, run}
 use Rattle.language.specs.Answers.{Lent, Outcome, on_read, ended, run_call}
 use Rattle.language.specs.declared.Meter.{Meter}
+use Rattle.language.specs.declared.refusals.Refusal.{Refusal}
+use Rattle.language.specs.declared.refusals.Refusal.TheVariants.{LongProgram, LongObject, StepsOver, NamesOver, CellsOver}
 use Rattle.language.specs.declared.Answer.{Answer}
 
 abbrev pub budgets : ℕ → ℕ → ℕ → Meter
@@ -27,16 +29,16 @@ RunDetermined =
     (program object : List ℕ) (b : Meter) (lent : Lent) (r r' : Answer) (forms forms' cells cells' output output' : List ℕ) → RunAnswered program object b lent r forms cells output
     → RunAnswered program object b lent r' forms' cells' output' → (r ≡ r') × (forms ≡ forms') × (cells ≡ cells') × (output ≡ output')
 
--- 1 to 5, by lengths and budgets; 0 if none of them
-unfoldable pub early_refusal : (program object : ℕ) → Meter → (forms cells : ℕ) → ℕ
+-- 1 to 5, by lengths and budgets; Ok if none of them
+unfoldable pub early_refusal : (program object : ℕ) → Meter → (forms cells : ℕ) → Result (Unit {0}) Refusal
 early_refusal program object b forms cells =
-    cond (ltb program_limit program) 1
-    (cond (ltb object_limit object) 2
-    (cond (ltb step_limit b.steps) 3
-    (cond (ltb name_limit b.names) 4
-    (cond (ltb cell_limit b.cells || not (eqb forms form_table_size) || not (eqb cells (cell_table_size b.cells))) 5 0))))
+    cond (ltb program_limit program) (Err LongProgram)
+    (cond (ltb object_limit object) (Err LongObject)
+    (cond (ltb step_limit b.steps) (Err StepsOver)
+    (cond (ltb name_limit b.names) (Err NamesOver)
+    (cond (ltb cell_limit b.cells || not (eqb forms form_table_size) || not (eqb cells (cell_table_size b.cells))) (Err CellsOver) (Ok tt)))))
 
--- what holds where it is 0
+-- what holds where it is Ok
 pub record WithinLimits (program object : ℕ) (b : Meter) (forms cells : ℕ) : Type 0 where
   pub short_program : program ≤ program_limit
   pub short_object : object ≤ object_limit

@@ -1,5 +1,5 @@
 -- The stages of a run call, each from what the stage before it left in the tables.
-use Rattle.std.specs.Prelude.{ℕ, ◌-◌, ◌≤◌, ◌<◌, ◌≡◌, cond, ◌||◌, not, List, ltb, eqb}
+use Rattle.std.specs.Prelude.{ℕ, ◌-◌, ◌≤◌, ◌<◌, ◌≡◌, cond, ◌||◌, not, List, ltb, eqb, Result, Ok, Err}
 use Rattle.language.specs.Objects.{Obj}
 use Rattle.language.specs.Forms.{Prog, main_form}
 use Rattle.language.specs.Reading.{got, Placed, read_program, program_of}
@@ -7,18 +7,19 @@ use Rattle.language.specs.Numbers.{one, object_limit, form_limit, definition_lim
 use Rattle.language.specs.Evaluation.{Out, apply}
 use Rattle.language.specs.Answers.{writing}
 use Rattle.language.specs.declared.Meter.{Meter}
+use Rattle.language.specs.declared.refusals.Refusal.{Refusal}
+use Rattle.language.specs.declared.refusals.Refusal.TheVariants.{CellsOver}
 use Rattle.language.specs.declared.Answer.{Answer}
 use Rattle.language.specs.declared.Val.{Val}
 use Rattle.cells.specs.Cells.{Rep, Room, free}
-use Rattle.primitives.specs.declared.Ended.{Ended}
-use Rattle.primitives.specs.Ends.{Gives}
+use Rattle.primitives.specs.Ends.{Ended, Gives}
 use Rattle.programs.specs.Definitions.{ProgramLaid}
 use Rattle.program_runner.specs.Mains.{Loaded}
 use Rattle.nattglod.specs.Calls.{budgets, lends, TextsAnswered, EndAnswered}
 
 -- the last of the early refusals, by the budgeted cells and the lengths of both tables
-unfoldable pub table_refusal : (budget forms cells : ℕ) → ℕ
-table_refusal budget forms cells = cond (ltb cell_limit budget || not (eqb forms form_table_size) || not (eqb cells (cell_table_size budget))) 5 0
+unfoldable pub table_refusal : (budget forms cells : ℕ) → Result (Unit {0}) Refusal
+table_refusal budget forms cells = cond (ltb cell_limit budget || not (eqb forms form_table_size) || not (eqb cells (cell_table_size budget))) (Err CellsOver) (Ok tt)
 
 -- P was read from the program's text and lies in the tables, its constants in the first `used` cells if the table has room.
 pub record ProgramLies (program : List ℕ) (P : Prog) (T : List ℕ) (total : ℕ) (D : List ℕ) (many : ℕ) (C : List ℕ) (used : ℕ) : Type 0 where

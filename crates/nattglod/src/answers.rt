@@ -2,25 +2,27 @@
 ghost use Rattle.std.specs.Prelude.{◌≡◌, ◌-◌, ◌≤◌};
 ghost use Rattle.language.specs.Numbers.{object_limit};
 ghost use Rattle.language.specs.Answers.{bare, at, counting};
+ghost use Rattle.language.specs.Refusals.{number_of};
+ghost use Rattle.language.specs.Texts.{number_of_text};
 
-use language::Answer;
+use language::{Answer, Refusal, RefusedText, Text};
 
-// A number alone.
-pub fn bare(number: u32) -> Answer
-    ensures { result ≡ bare number }
+// A refusal's number alone.
+pub fn bare(refusal: Refusal) -> Answer
+    ensures { result ≡ bare (number_of refusal) }
 {
-    counting(number, 0, 0, 0)
+    counting(u32::from(refusal), 0, 0, 0)
 }
 
-// A refused text, with the place in it.
-pub fn at(number: u32, place: usize, text: u32) -> Answer
-    requires { place ≤ object_limit }
-    ensures { result ≡ at number place text }
+// A refused text, with the place in it, and which of the two it is.
+pub fn at(refused: RefusedText, text: Text) -> Answer
+    requires { refused.place ≤ object_limit }
+    ensures { result ≡ at (number_of refused.refusal) refused.place (number_of_text text) }
 {
     Answer {
-        number,
-        place: place as u32,
-        text,
+        number: u32::from(refused.refusal),
+        place: refused.place as u32,
+        text: u32::from(text),
         steps: 0,
         cells: 0,
         length: 0,
@@ -45,8 +47,5 @@ pub fn counting(number: u32, steps: u32, cells: u32, length: u32) -> Answer
 pub fn used(budget: u32, left: u32) -> u32
     ensures { result ≡ budget - left }
 {
-    if budget < left {
-        return 0;
-    }
-    budget - left
+    budget.saturating_sub(left)
 }

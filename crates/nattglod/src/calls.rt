@@ -4,39 +4,44 @@ ghost use Rattle.nattglod.specs.Calls.{budgets, lends, RunAnswered, early_refusa
 ghost use Rattle.nattglod.specs.Stages.{table_refusal};
 
 use super::{answers, texts};
-use language::{Answer, Meter};
+use language::{Answer, Meter, Refusal};
 
-// 5 if there are too many cells or a table has another length, else 0.
-fn table_refusal(budget: u32, forms: usize, cells: usize) -> u32
+// Refused if there are too many cells or a table has another length.
+#[tactic(auto, unfolding(crate::specs::Stages::table_refusal))]
+fn table_refusal(budget: u32, forms: usize, cells: usize) -> Result<(), Refusal>
     ensures { result ≡ table_refusal budget forms cells }
 {
-    if language::CELL_LIMIT < budget {
-        return language::CELLS_OVER;
+    if language::CELL_LIMIT < budget
+        || forms != language::FORM_TABLE_SIZE
+        || cells != 4 * budget as usize
+    {
+        return Err(Refusal::CellsOver);
     }
-    if forms != language::FORM_TABLE_SIZE {
-        return language::CELLS_OVER;
-    }
-    if cells != 4 * budget as usize {
-        return language::CELLS_OVER;
-    }
-    0
+    Ok(())
 }
 
-// 1 to 5, by lengths and budgets; 0 if none of them.
-fn early_refusal(program: usize, object: usize, b: Meter, forms: usize, cells: usize) -> u32
+// Refused if a text is too long, a budget too large or a table of another length: the first that holds, in the order of 1 to 5.
+#[tactic(auto, unfolding(crate::specs::Calls::early_refusal, crate::specs::Stages::table_refusal))]
+fn early_refusal(
+    program: usize,
+    object: usize,
+    b: Meter,
+    forms: usize,
+    cells: usize,
+) -> Result<(), Refusal>
     ensures { result ≡ early_refusal program object b forms cells }
 {
     if language::PROGRAM_LIMIT < program {
-        return language::LONG_PROGRAM;
+        return Err(Refusal::LongProgram);
     }
     if language::OBJECT_LIMIT < object {
-        return language::LONG_OBJECT;
+        return Err(Refusal::LongObject);
     }
     if language::STEP_LIMIT < b.steps {
-        return language::STEPS_OVER;
+        return Err(Refusal::StepsOver);
     }
     if language::NAME_LIMIT < b.names {
-        return language::NAMES_OVER;
+        return Err(Refusal::NamesOver);
     }
     table_refusal(b.cells, forms, cells)
 }
@@ -67,14 +72,13 @@ pub fn run(
         names,
         cells,
     };
-    let refusal = early_refusal(
+    if let Err(refusal) = early_refusal(
         program.len(),
         object.len(),
         b,
         forms.len(),
         cell_table.len(),
-    );
-    if refusal != 0 {
+    ) {
         return answers::bare(refusal);
     }
     let answer = texts::answer_texts(program, object, b, forms, cell_table, output);

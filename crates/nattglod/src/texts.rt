@@ -5,58 +5,54 @@ ghost use Rattle.nattglod.specs.Calls.{lends, WithinLimits, TextsAnswered};
 ghost use Rattle.nattglod.specs.Stages.{Small, MainAnswered, ObjectAnswered};
 
 use super::{answers, ends};
-use language::{Answer, Meter, Val};
+use language::{Answer, Meter, Refusal, Text};
 use objects::ObjectRead;
 use programs::ProgramRead;
 
-// Applies `main` to v, where the program and v stand in the first `used` cells.
+// Applies `main` to the object that was read, where it and the program stand in the first cells.
 fn answer_main(
     b: Meter,
     forms: &mut [u32],
-    total: usize,
     definitions: &[u32],
-    many: usize,
+    read: ProgramRead,
     c: &mut [u32],
-    used: u32,
-    v: Val,
+    x: ObjectRead,
     output: &mut [u8],
 ) -> Answer
-    requires { (total ≤ form_limit) × (many ≤ definition_limit) × (used ≤ b.cells) }
-    ensures { MainAnswered b forms.old total definitions.now many c.old used v output.old result output.new }
+    requires { (read.forms ≤ form_limit) × (read.definitions ≤ definition_limit) × (x.cells ≤ b.cells) }
+    ensures { MainAnswered b forms.old read.forms definitions.now read.definitions c.old x.cells x.value output.old result output.new }
 {
     let m = Meter {
-        steps: b.steps,
-        names: b.names,
-        cells: b.cells - used,
+        cells: b.cells - x.cells,
+        ..b
     };
-    let ended = program_runner::apply_main(forms, total as u32, definitions, many as u32, c, v, m);
+    let total = read.forms as u32;
+    let many = read.definitions as u32;
+    let ended = program_runner::apply_main(forms, total, definitions, many, c, x.value, m);
     ends::answer_end(b, c, ended, output)
 }
 
-// Reads the object behind the program's `used` cells: the object's 6 to 9, 13, or the run.
+// Reads the object behind the program's cells: the object's 6 to 9, 13, or the run.
 fn answer_object(
     object: &[u8],
     b: Meter,
     forms: &mut [u32],
-    total: usize,
     definitions: &[u32],
-    many: usize,
+    read: ProgramRead,
     c: &mut [u32],
-    used: u32,
     output: &mut [u8],
 ) -> Answer
-    requires { Small (length object.now) b (length forms.old) total many (length c.old) used }
-    ensures { ObjectAnswered object.now b forms.old total definitions.now many c.old used output.old result output.new }
+    requires { Small (length object.now) b (length forms.old) read.forms read.definitions (length c.old) read.cells }
+    ensures { ObjectAnswered object.now b forms.old read.forms definitions.now read.definitions c.old read.cells output.old result output.new }
 {
-    match objects::read_whole_object(object, c, used) {
-        ObjectRead::No(number, place) => answers::at(number, place, language::OBJECT_TEXT),
-        ObjectRead::Got(v, end, all) => {
-            if b.cells < all {
-                return answers::bare(language::FEW_CELLS);
-            }
-            answer_main(b, forms, total, definitions, many, c, all, v, output)
-        }
+    let x = match objects::read_whole_object(object, c, read.cells) {
+        Err(e) => return answers::at(e, Text::Object),
+        Ok(x) => x,
+    };
+    if b.cells < x.cells {
+        return answers::bare(Refusal::FewCells);
     }
+    answer_main(b, forms, definitions, read, c, x, output)
 }
 
 // Reads the program, its definitions into a table of 512 numbers: the program's 6 to 11, or what the object gives.
@@ -74,18 +70,8 @@ fn answer_program(
     ensures { TextsAnswered program.now object.now b (lends forms.old c.old output.old) result output.new }
 {
     match programs::read_program(program, forms, c, definitions) {
-        ProgramRead::No(number, place) => answers::at(number, place, language::PROGRAM_TEXT),
-        ProgramRead::Got(many, total, used) => answer_object(
-            object,
-            b,
-            forms,
-            total,
-            definitions,
-            many,
-            c,
-            used,
-            output,
-        ),
+        Err(e) => answers::at(e, Text::Program),
+        Ok(read) => answer_object(object, b, forms, definitions, read, c, output),
     }
 }
 

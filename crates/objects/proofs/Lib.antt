@@ -1,4 +1,5 @@
 -- The laws that the proofs of objects cite.
+pub mod Refused
 pub mod NumberTexts
 pub mod Walks
 pub mod Writes

@@ -1,10 +1,9 @@
 -- Laws of decimals and of texts put into an output: the turns of both loops.
-use Rattle.std.proofs.Common.{◌≡◌, ℕ, zero, suc, ◌+◌, ◌-◌, ◌/◌, ◌%◌, ◌^◌, ◌<◌, ◌≤◌, Bool, true, false, leb, List, [], ◌∷◌, ◌++◌, length, get_or, take, drop, set, sym, refl, ap, ◌∙◌, append_assoc, append-nil, pow-suc, add-one, arith, length-set, drop_of_length-le, length-take-le, get_or-drop, take_all, drop-cons, get_or-take, take-suc, get_or-set_same, drop-set-lt, le-leb, leb-false, leb-true}
+use Rattle.std.proofs.Common.{◌≡◌, ℕ, zero, suc, ◌+◌, ◌-◌, ◌/◌, ◌%◌, ◌^◌, ◌<◌, ◌≤◌, Bool, true, false, leb, List, [], ◌∷◌, ◌++◌, length, take, drop, set, sym, refl, ap, ◌∙◌, append_assoc, pow-suc, arith, length-set, drop-cons, get_or-set_same, drop-set-lt, drop-drop, le-leb, leb-false, leb-true}
 use borrow.Author.Tests.{lt-leb}
-use lib.Seq.{slice, length-slice}
+use borrow.Rule.Slice.PartMut.{put_mid}
 use Rattle.language.specs.Writing.{digits, decimal}
 use Rattle.tables.specs.Tables.{put}
-use Rattle.tables.proofs.Put.{put_after, put_none, set_put}
 use Rattle.objects.specs.Writings.{DigitsAt, PutText}
 
 -- ---- decimals: the last digit is written behind the others, however many calls are allowed
@@ -48,15 +47,6 @@ pub record Spelling (n : ℕ) (a : List ℕ) (left i : ℕ) : Type 0 where
   pub under : left < 10 ^ i
   pub is : decimal n ≡ decimal left ++ drop i a
 
-pub spell_start : (n : ℕ) (a : List ℕ) → length a ≡ 20 → n < 2 ^ 64 → Spelling n a n 20
-spell_start n a l h = record {
-  low = omega arith;
-  high = omega arith;
-  len = l;
-  under = omega arith;
-  is = rw (drop_of_length-le a {i = 20} (omega arith)) (sym (append-nil (decimal n)));
-}
-
 stored : (a : List ℕ) (j i v : ℕ) → i ≡ suc j → j < length a → drop j (set a j v) ≡ v ∷ drop i a
 stored a j i v e h =
     let l = length-set a j v in
@@ -79,56 +69,19 @@ spell_on n a left j i v e f h g =
     some zero e u = let q : left < 10 ^ 1 = rw e at u in absurd (omega arith)
     some (suc j) e u = omega arith
 
-pub spell_turn : {n : ℕ} {a : List ℕ} {left i : ℕ} → 9 < left → Spelling n a left i → Spelling n (set a (i - 1) (left % 10 + 48)) (left / 10) (i - 1)
-spell_turn {n} {a} {left} {i} h g = spell_on n a left (i - 1) i (left % 10 + 48) (omega (arith, g.low)) (omega arith) h g
+pub spell_turn : {n : ℕ} {a : List ℕ} {left i : ℕ} → 10 ≤ left → Spelling n a left i → Spelling n (set a (i - 1) (left % 10 + 48)) (left / 10) (i - 1)
+spell_turn {n} {a} {left} {i} h g = spell_on n a left (i - 1) i (left % 10 + 48) (omega (arith, g.low)) (omega arith) (omega arith) g
 
-pub spell_end : {n : ℕ} {a : List ℕ} {left i : ℕ} → left ≤ 9 → Spelling n a left i → DigitsAt n (i - 1) (set a (i - 1) (left + 48))
+pub spell_end : {n : ℕ} {a : List ℕ} {left i : ℕ} → left < 10 → Spelling n a left i → DigitsAt n (i - 1) (set a (i - 1) (left % 10 + 48))
 spell_end {n} {a} {left} {i} h g =
     let l = g.len in
     let lo = g.low in
     let hi = g.high in
-    let e : left + 48 ≡ 48 + left = omega arith in
-    record { high = omega arith; is = stored a (i - 1) i (left + 48) (omega arith) (omega arith) ∙ rw e (ap (λ (x : List ℕ). x ++ drop i a) (sym (one_digit left h))) ∙ sym g.is }
+    let e : left % 10 + 48 ≡ 48 + left = omega arith in
+    record { high = omega arith; is = stored a (i - 1) i (left % 10 + 48) (omega arith) (omega arith) ∙ rw e (ap (λ (x : List ℕ). x ++ drop i a) (sym (one_digit left (omega arith)))) ∙ sym g.is }
 
--- ---- a text is put byte by byte: the first i stand
-pub record Putting (out₀ : List ℕ) (at : ℕ) (text out : List ℕ) (from to i : ℕ) : Type 0 where
-  pub size : length (slice from to text) ≡ to - from
-  pub fits : at + (to - from) ≤ length out₀
-  pub most : i ≤ to - from
-  pub len : length out ≡ length out₀
-  pub is : out ≡ put out₀ at (take i (slice from to text))
-
-pub put_none_yet : {out : List ℕ} {at : ℕ} {text : List ℕ} {from to : ℕ} → from ≤ to → to ≤ length text → at + (to - from) ≤ length out → Putting out at text out from to 0
-put_none_yet {out} {at} {text} {from} {to} l m h = record { size = length-slice from to text m; fits = h; most = omega arith; len = refl; is = sym (put_none out at) }
-
-byte_of : (text : List ℕ) (from to i : ℕ) → i < to - from → get_or (slice from to text) i 0 ≡ get_or text (from + i) 0
-byte_of text from to i h = get_or-drop from (take to text) i 0 ∙ get_or-take to text (from + i) 0 (omega arith)
-
-pub put_turn : {out₀ : List ℕ} {at : ℕ} {text out : List ℕ} {from to i : ℕ} → i < to - from → Putting out₀ at text out from to i → Putting out₀ at text (set out (at + i) (get_or text (from + i) 0)) from to (i + 1)
-put_turn {out₀} {at} {text} {out} {from} {to} {i} h g =
-    let t = slice from to text in
-    let x = get_or text (from + i) 0 in
-    let n = g.size in
-    let l = length-take-le i t (omega arith) in
-    let f = g.fits in
-    let m = g.len in
-    let e : at + i ≡ at + length (take i t) = rw l in
-    record {
-      size = n;
-      fits = f;
-      most = omega arith;
-      len = length-set out (at + i) x ∙ m;
-      is = set_put out (at + i) x (omega arith) ∙ ap (λ (y : List ℕ). put y (at + i) (x ∷ [])) g.is ∙ ap (λ (k : ℕ). put (put out₀ at (take i t)) k (x ∷ [])) e
-          ∙ put_after out₀ at (take i t) (x ∷ []) (omega arith) ∙ ap (λ (y : List ℕ). put out₀ at y) (sym (rw (add-one, ← (byte_of text from to i h)) (take-suc t i 0 (omega arith))));
-    }
-
-pub put_end : {out₀ : List ℕ} {at : ℕ} {text out : List ℕ} {from to i : ℕ} → to - from ≤ i → Putting out₀ at text out from to i → PutText out₀ at (slice from to text) out
-put_end {out₀} {at} {text} {out} {from} {to} {i} h g = record { is = λ room. g.is ∙ ap (λ (y : List ℕ). put out₀ at y) (take_all i (slice from to text) (omega (arith, g.size))) }
-
--- the output has too little room
-module _ {out : List ℕ} {at : ℕ} (text : List ℕ) (from to : ℕ) {out' : List ℕ} (inside : (from ≤ to) × (to ≤ length text)) where
-  pub put_small : length out < to - from → PutText out at (slice from to text) out'
-  put_small h = record { is = λ room. absurd (omega (arith, inside.1, length-slice from to text inside.1)) }
-
-  pub put_far : length out - (to - from) < at → PutText out at (slice from to text) out'
-  put_far h = record { is = λ room. absurd (omega (arith, inside.1, length-slice from to text inside.1)) }
+-- ---- a text is put
+-- the output has room for all of it
+pub put_part : {out : List ℕ} {at : ℕ} {text part : List ℕ} → part ≡ text → PutText out at text (put_mid at (at + length text - at) out part)
+unfolding put
+put_part {out} {at} {text} {part} e = record { is = λ room. let k : at + (at + length text - at) ≡ at + length text = omega arith in rw (e, drop-drop, k) (sym (append_assoc (take at out) text (drop (at + length text) out))) }

@@ -1,5 +1,5 @@
 -- Laws of walks: one text behind another, bytes that open and close nothing, the marks.
-use Rattle.std.proofs.Common.{◌≡◌, ℕ, ◌+◌, ◌-◌, ◌<◌, ◌≤◌, Bool, true, false, cond, not, ◌&&◌, eqb, leb, List, [], ◌∷◌, ◌++◌, length, sym, refl, ap, ◌∙◌, arith, length-append, eq-eqb, ne_eqb, eqb-true, le-leb}
+use Rattle.std.proofs.Common.{◌≡◌, ℕ, ◌+◌, ◌-◌, ◌<◌, ◌≤◌, Bool, true, false, cond, not, ◌&&◌, eqb, leb, Result, Ok, Err, List, [], ◌∷◌, ◌++◌, length, sym, refl, ap, ◌∙◌, arith, length-append, eq-eqb, ne_eqb, eqb-true, le-leb}
 use Prim.Native.Char.{code}
 use mathlib.Core.Bool.{and-eq-true_iff}
 use native.Mathlib.Nat.{sub-zero}
@@ -8,9 +8,9 @@ use Rattle.language.specs.Judging.{all}
 use Rattle.language.specs.Writing.{Scan, on, short, deep, open_behind, scan}
 use Rattle.tables.specs.Tables.{put}
 use Rattle.tables.proofs.Put.{put_after}
-use Rattle.objects.specs.Writings.{WalkedText, fits, too_long, too_deep, Within, PutByte, is_flat}
-use Rattle.objects.specs.declared.Written.{Written}
-use Rattle.objects.specs.declared.Written.TheVariants as W
+use Rattle.objects.specs.Writings.{Written, WalkedText, fits, too_long, too_deep, Within, PutText, placed, is_flat}
+use Rattle.objects.specs.declared.NotWritten.{NotWritten}
+use Rattle.objects.specs.declared.NotWritten.TheVariants.{NoRoom, TooDeep}
 
 -- ---- scans
 abbrev and_scan : Scan → (ℕ → ℕ → Scan) → Scan
@@ -85,18 +85,13 @@ flat_short (b ∷ a) d r h e =
 
 -- ---- one text behind another
 module _ {a : List ℕ} (b : List ℕ) {d d₁ : ℕ} (d₂ : ℕ) {at cap : ℕ} {r r₂ : Written} {out out₁ out₂ : List ℕ} where
-  pub walk_short : WalkedText a d d₁ at cap r out out₁ → r ≡ W.Short → r₂ ≡ W.Short → WalkedText (a ++ b) d d₂ at cap r₂ out out₂
-  walk_short (fits e l s p) h g = let z : ◌≡◌ {A = ℕ} 0 1 = cc in absurd (omega arith)
-  walk_short (too_long e s) h g = too_long g (scan-append a b d (cap - at) ∙ rw s)
-  walk_short (too_deep e s) h g = let z : ◌≡◌ {A = ℕ} 0 1 = cc in absurd (omega arith)
-
-  pub walk_deep : WalkedText a d d₁ at cap r out out₁ → r ≡ W.Deep → r₂ ≡ W.Deep → WalkedText (a ++ b) d d₂ at cap r₂ out out₂
-  walk_deep (fits e l s p) h g = let z : ◌≡◌ {A = ℕ} 0 1 = cc in absurd (omega arith)
-  walk_deep (too_long e s) h g = let z : ◌≡◌ {A = ℕ} 0 1 = cc in absurd (omega arith)
-  walk_deep (too_deep e s) h g = too_deep g (scan-append a b d (cap - at) ∙ rw s)
+  pub walk_err : {why : NotWritten} → WalkedText a d d₁ at cap r out out₁ → r ≡ Err why → r₂ ≡ Err why → WalkedText (a ++ b) d d₂ at cap r₂ out out₂
+  walk_err (fits e l s p) h g = let z : ◌≡◌ {A = ℕ} 0 1 = cc in absurd (omega arith)
+  walk_err (too_long e s) h g = too_long (cc) (scan-append a b d (cap - at) ∙ rw s)
+  walk_err (too_deep e s) h g = too_deep (cc) (scan-append a b d (cap - at) ∙ rw s)
 
 module _ {a b : List ℕ} {d d₁ d₂ at cap : ℕ} {r r₂ : Written} {out out₁ out₂ : List ℕ} where
-  pub walk_then : {e : ℕ} → WalkedText a d d₁ at cap r out out₁ → r ≡ W.Done e → length out₁ ≡ length out → WalkedText b d₁ d₂ e cap r₂ out₁ out₂ → WalkedText (a ++ b) d d₂ at cap r₂ out out₂
+  pub walk_then : {e : ℕ} → WalkedText a d d₁ at cap r out out₁ → r ≡ Ok e → length out₁ ≡ length out → WalkedText b d₁ d₂ e cap r₂ out₁ out₂ → WalkedText (a ++ b) d d₂ at cap r₂ out out₂
   walk_then {e} (too_long f s) h n w = let z : ◌≡◌ {A = ℕ} 0 1 = cc in absurd (omega arith)
   walk_then {e} (too_deep f s) h n w = let z : ◌≡◌ {A = ℕ} 0 1 = cc in absurd (omega arith)
   walk_then {e} (fits f l s p) h n w = go e (cc) w
@@ -114,40 +109,45 @@ module _ {a b : List ℕ} {d d₁ d₂ at cap : ℕ} {r r₂ : Written} {out out
 
 -- ---- bytes that open and close nothing
 module _ {text : List ℕ} {at cap : ℕ} {r : Written} {out out' : List ℕ} where
-  pub flat_long : at ≤ cap → cap - at < length text → r ≡ W.Short → (d : ℕ) → all is_flat text ≡ true → WalkedText text d d at cap r out out'
+  pub flat_long : at ≤ cap → cap - at < length text → r ≡ Err NoRoom → (d : ℕ) → all is_flat text ≡ true → WalkedText text d d at cap r out out'
   flat_long l h e d f = too_long e (flat_short text d (cap - at) f h)
 
-  pub flat_walk : at ≤ cap → length text ≤ cap - at → r ≡ W.Done (at + length text) → (at + length text ≤ length out → out' ≡ put out at text) → (d : ℕ) → all is_flat text ≡ true → WalkedText text d d at cap r out out'
+  pub flat_walk : at ≤ cap → length text ≤ cap - at → r ≡ Ok (at + length text) → (at + length text ≤ length out → out' ≡ put out at text) → (d : ℕ) → all is_flat text ≡ true → WalkedText text d d at cap r out out'
   flat_walk l h e p d f = fits e (omega arith) (flat_fits text d (cap - at) f h ∙ ap (λ (x : ℕ). on d x) (omega arith)) p
 
 -- ---- marks
 module _ {at cap : ℕ} {r : Written} {out out' : List ℕ} where
-  pub mark_long : (b : ℕ) (rest : List ℕ) (d d' : ℕ) → at ≡ cap → r ≡ W.Short → (b ≡ 60 → ⊥) → WalkedText (b ∷ rest) d d' at cap r out out'
+  pub mark_long : (b : ℕ) (rest : List ℕ) (d d' : ℕ) → at ≡ cap → r ≡ Err NoRoom → (b ≡ 60 → ⊥) → WalkedText (b ∷ rest) d d' at cap r out out'
   mark_long b rest d d' l e o = too_long e (scan_out b rest d (cap - at) o (omega arith))
 
-  pub mark_walk : (b d : ℕ) → at < cap → r ≡ W.Done (at + 1) → PutByte out at b out' → (b ≡ 60 → ⊥) → WalkedText (b ∷ []) d (open_behind b d) at cap r out out'
+  pub mark_walk : (b d : ℕ) → at < cap → r ≡ Ok (at + 1) → PutText out at (b ∷ []) out' → (b ≡ 60 → ⊥) → WalkedText (b ∷ []) d (open_behind b d) at cap r out out'
   unfolding scan
   mark_walk b d l e p o = fits e (omega arith) (scan_next b [] d (cap - at) o (omega arith) ∙ ap (λ (x : ℕ). on (open_behind b d) x) (omega arith)) p.is
 
-  pub open_deep : (rest : List ℕ) (d d' : ℕ) → 32 ≤ d → r ≡ W.Deep → WalkedText (60 ∷ rest) d d' at cap r out out'
+  pub open_deep : (rest : List ℕ) (d d' : ℕ) → 32 ≤ d → r ≡ Err TooDeep → WalkedText (60 ∷ rest) d d' at cap r out out'
   open_deep rest d d' h e = too_deep e (scan_deep rest d (cap - at) h)
 
-  pub open_long : (rest : List ℕ) (d d' : ℕ) → d < 32 → at ≡ cap → r ≡ W.Short → WalkedText (60 ∷ rest) d d' at cap r out out'
+  pub open_long : (rest : List ℕ) (d d' : ℕ) → d < 32 → at ≡ cap → r ≡ Err NoRoom → WalkedText (60 ∷ rest) d d' at cap r out out'
   open_long rest d d' h l e = too_long e (scan_full rest d (cap - at) h (omega arith))
 
-  pub open_walk : (d : ℕ) → d < 32 → at < cap → r ≡ W.Done (at + 1) → PutByte out at 60 out' → WalkedText (60 ∷ []) d (d + 1) at cap r out out'
+  pub open_walk : (d : ℕ) → d < 32 → at < cap → r ≡ Ok (at + 1) → PutText out at (60 ∷ []) out' → WalkedText (60 ∷ []) d (d + 1) at cap r out out'
   unfolding scan
   open_walk d h l e p = fits e (omega arith) (scan_open [] d (cap - at) h (omega arith) ∙ ap (λ (x : ℕ). on (d + 1) x) (omega arith)) p.is
 
 -- ---- bounds
-pub within_short : {at cap : ℕ} {r : Written} → r ≡ W.Short → Within at cap r
-within_short e = record { ends = λ x f. let z : ◌≡◌ {A = ℕ} 0 1 = cc in absurd (omega arith) }
+pub within_err : {at cap : ℕ} {why : NotWritten} {r : Written} → r ≡ Err why → Within at cap r
+within_err e = record { ends = λ x f. let z : ◌≡◌ {A = ℕ} 0 1 = cc in absurd (omega arith) }
 
-pub within_deep : {at cap : ℕ} {r : Written} → r ≡ W.Deep → Within at cap r
-within_deep e = record { ends = λ x f. let z : ◌≡◌ {A = ℕ} 0 1 = cc in absurd (omega arith) }
-
-pub within_done : {at cap : ℕ} {r : Written} (e : ℕ) → r ≡ W.Done e → at ≤ e → e ≤ cap → Within at cap r
+pub within_done : {at cap : ℕ} {r : Written} (e : ℕ) → r ≡ Ok e → at ≤ e → e ≤ cap → Within at cap r
 within_done e f l h = record { ends = λ x g. let z : x ≡ e = cc in (omega arith, omega arith) }
 
 pub within_later : {at at₁ cap : ℕ} {r : Written} → at ≤ at₁ → Within at₁ cap r → Within at cap r
 within_later l w = record { ends = λ x g. let z = w.ends x g in (omega (arith, z.0), z.1) }
+
+-- ---- how a walk ended
+module _ {q : Result (Unit {0}) NotWritten} where
+  pub placed_ok : {u : Unit {0}} (a : ℕ) → q ≡ Ok u → placed q a ≡ Ok a
+  placed_ok a e = ap (λ (r : Result (Unit {0}) NotWritten). placed r a) e
+
+  pub placed_err : {why : NotWritten} (a : ℕ) → q ≡ Err why → placed q a ≡ Err why
+  placed_err a e = ap (λ (r : Result (Unit {0}) NotWritten). placed r a) e

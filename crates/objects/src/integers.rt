@@ -8,12 +8,12 @@ pub fn digits(n: u64, a: &mut [u8]) -> usize
     ensures { DigitsAt n result a.new }
 {
     let mut left = n;
-    let mut i = 20;
-    while 9 < left {
-        i -= 1;
+    for i in (0..20).rev() {
         a[i] = (left % 10) as u8 + b'0';
-        left = left / 10;
+        if left < 10 {
+            return i;
+        }
+        left /= 10;
     }
-    a[i - 1] = left as u8 + b'0';
-    i - 1
+    unreachable!()
 }

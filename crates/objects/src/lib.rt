@@ -1,6 +1,10 @@
 // Objects in texts: read into cells, and written from them.
 #![tactic(auto)]
 
+ghost use Rattle.std.specs.Prelude.{◌≡◌};
+ghost use Rattle.objects.specs.Writings.{number_of};
+
+mod cursor;
 mod integers;
 mod reader;
 mod writer;
@@ -9,28 +13,34 @@ pub use integers::digits;
 pub use reader::{read_object, read_whole_object};
 pub use writer::{put_text, walk_object, write_object};
 
-// What was read: the value, the place behind it and the number of the next free cell; or the number and the place of
-// the answer that refuses the text.
-#[derive(Clone, Copy)]
-pub enum ObjectRead {
-    Got(language::Val, usize, u32),
-    No(u32, usize),
+// What was read: the value, the place behind it and the number of the next free cell.
+#[derive(Clone, Copy, Debug, PartialEq, Eq)]
+pub struct ObjectRead {
+    pub value: language::Val,
+    pub next: usize,
+    pub cells: u32,
 }
 
 // What was read of one place of a sequence, with the place behind it and the number of the next free cell: a comma
-// follows it and so another place, or the `>`; or the refusal.
-#[derive(Clone, Copy)]
+// follows it and so another place, or the `>`.
+#[derive(Clone, Copy, Debug, PartialEq, Eq)]
 pub enum PlaceRead {
     More(usize, u32),
     Last(usize, u32),
-    No(u32, usize),
 }
 
-// What became of writing: the place behind what was written; or no room for a byte (25), or a 33rd open mark (26),
-// whichever comes first from the left.
-#[derive(Clone, Copy)]
-pub enum Written {
-    Done(usize),
-    Short,
-    Deep,
+// Why an object isn't written, by the answer's number: no room for a byte, or a 33rd open mark, whichever comes first from
+// the left.
+#[derive(Clone, Copy, Debug, PartialEq, Eq)]
+pub enum NotWritten {
+    NoRoom = 25,
+    TooDeep = 26,
+}
+
+impl From<NotWritten> for u32 {
+    ghost from_gives = { λ why n. n ≡ number_of why };
+
+    fn from(why: NotWritten) -> u32 {
+        why as u32
+    }
 }

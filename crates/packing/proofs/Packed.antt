@@ -9,8 +9,9 @@ use native.Mathlib.Numerals.{add-one}
 use native.Mathlib.Omega.{arith}
 use borrow.Author.Tests.{le-leb, lt-leb, ne_eqb, leb-true}
 use lib.Dec.{leb}
-use lib.ListN.{length, get_or, take, drop, set, take-append-drop}
-use lib.Seq.{slice, slice_empty, length-slice, length-take-le, take-suc-set, drop-set-lt, drop-drop}
+use lib.ListN.{length, take, drop, set, take-append-drop, length-append}
+use lib.Seq.{length-take-le, take-suc-set, drop-set-lt, drop-drop, drop-length, drop-append_seam}
+use Rattle.std.specs.List.{push}
 use Rattle.language.specs.Tokens.{is_digit, is_lower, is_upper}
 use Rattle.language.specs.Judging.{all, is_symbol_byte}
 use Rattle.language.specs.Accepted.{IsSymbol, IsName}
@@ -18,7 +19,6 @@ use Rattle.packing.specs.Packing.{letter_of, packed}
 use Rattle.packing.specs.declared.Case.{Case}
 use Rattle.packing.specs.declared.Case.TheVariants.{Upper, Lower}
 use Rattle.packing.specs.Packing.{letter_base, byte_of, in_case, unpacked_from, unpacked, Unpacked}
-use Rattle.packing.proofs.Slices.{slice_first}
 
 -- packing
 packed_lt : (w : List ℕ) → packed w < 37 ^ length w
@@ -37,16 +37,32 @@ step : (b : ℕ) (w : List ℕ) → packed (b ∷ w) ≡ packed w * 37 + letter_
 unfolding packed
 step b w = refl
 
-module _ (s : List ℕ) (to : ℕ) (fits : to ≤ length s) where
-  pub packed_none : packed (slice to to s) ≡ 0
-  unfolding packed
-  packed_none = rw (slice_empty to s)
+-- What `pack` has of a word when `rest` is still ahead of it: v is what stands behind `rest` as a number.
+pub record PackedBehind (word rest : List ℕ) (v : ℕ) : Type 0 where
+  pub whole : word ≡ rest ++ drop (length rest) word
+  pub value : v ≡ packed (drop (length rest) word)
 
-  pub packed_turn : (i j : ℕ) → i ≡ j + 1 → i ≤ to → packed (slice j to s) ≡ packed (slice i to s) * 37 + letter_of (get_or s j 0)
-  packed_turn i j e h = rw (slice_first s j to (omega arith) fits, e) (step (get_or s j 0) (slice (j + 1) to s))
+pub packed_none : (word rest : List ℕ) → rest ≡ word → PackedBehind word rest 0
+unfolding packed
+packed_none word rest e = rw e (record { whole = rw (drop-length word) (sym (append-nil word)); value = rw (drop-length word) })
 
-  pub packed_fits : (from i j : ℕ) → i ≡ j + 1 → i ≤ to → from ≤ j → to ≤ from + 12 → packed (slice i to s) * 37 + 37 ≤ 37 ^ 12
-  packed_fits from i j e h f n = packed_room (slice i to s) (rw (length-slice i to s fits) (omega arith))
+module _ (word rest ahead : List ℕ) (v x : ℕ) (behind : PackedBehind word rest v) (splits : rest ≡ push ahead x) where
+  next : word ≡ ahead ++ (x ∷ drop (length rest) word)
+  next = behind.whole ∙ ap (λ (t : List ℕ). t ++ drop (length rest) word) splits ∙ append_assoc ahead (x ∷ []) (drop (length rest) word)
+
+  next_drop : drop (length ahead) word ≡ x ∷ drop (length rest) word
+  next_drop = ap (drop (length ahead)) next ∙ drop-append_seam ahead (x ∷ drop (length rest) word)
+
+  pub packed_turn : {d : ℕ} → d ≡ letter_of x → PackedBehind word ahead (v * 37 + d)
+  packed_turn {d} e = record { whole = rw (← next_drop) at next; value = rw (next_drop, e) (ap (λ (n : ℕ). n * 37 + letter_of x) behind.value ∙ sym (step x (drop (length rest) word))) }
+
+  pub packed_fits : length word ≤ 12 → v * 37 + 37 ≤ 37 ^ 12
+  packed_fits h =
+      let n : length word ≡ length ahead + suc (length (drop (length rest) word)) = ap length next ∙ length-append ahead (x ∷ drop (length rest) word) in
+      rw behind.value (packed_room (drop (length rest) word) (omega arith))
+
+pub packed_done : {word rest : List ℕ} {v : ℕ} → PackedBehind word rest v → length rest ≡ 0 → v ≡ packed word
+packed_done {word} {rest} {v} behind h = behind.value ∙ rw h
 
 -- the bytes of a case: letters behind `letter_base`, or digits
 either : (x y : Bool) → x || y ≡ true → (x ≡ true) ⊎ (y ≡ true)
@@ -68,6 +84,18 @@ letter_letter : (case : Case) (b : ℕ) → letter_base case + 1 ≤ b → b ≤
 unfolding letter_of
 letter_letter Upper b h k = rw (lt-leb b 57 (omega arith), le-leb b 90 k) (omega arith)
 letter_letter Lower b h k = rw (lt-leb b 57 (omega arith), lt-leb b 90 (omega arith)) (omega arith)
+
+pub letter_low : (b : ℕ) → b ≤ 57 → letter_of b ≡ (b - 21) % 37
+unfolding letter_of
+letter_low b h = rw (le-leb b 57 h)
+
+pub letter_upper : (b : ℕ) → 57 < b → b ≤ 90 → letter_of b ≡ (b - 64) % 37
+unfolding letter_of
+letter_upper b h k = rw (lt-leb b 57 h, le-leb b 90 k)
+
+pub letter_lower : (b : ℕ) → 90 < b → letter_of b ≡ (b - 96) % 37
+unfolding letter_of
+letter_lower b h = rw (lt-leb b 57 (omega arith), lt-leb b 90 h)
 
 record Letter (case : Case) (b : ℕ) : Type 0 where
   back : byte_of case (letter_of b) ≡ b
@@ -149,8 +177,9 @@ module _ (case : Case) (v : ℕ) (old new : List ℕ) (left i : ℕ) where
   pub unpack_out : 12 ≤ length new → i < 12 → left ≡ 0 → unpacked case v ≡ take i new ++ unpacked_from case (12 - i) left → drop i new ≡ drop i old → Unpacked case v i old new
   unpack_out n h z inv d = whole n (omega arith) (inv ∙ rw (z, unpacked-zero case (12 - i)) (append-nil (take i new))) d
 
-  pub unpack_full : 12 ≤ length new → 12 ≤ i → i ≤ 12 → unpacked case v ≡ take i new ++ unpacked_from case (12 - i) left → drop i new ≡ drop i old → Unpacked case v i old new
+  pub unpack_full : 12 ≤ length new → 12 ≤ i → i ≤ 12 → unpacked case v ≡ take i new ++ unpacked_from case (12 - i) left → drop i new ≡ drop i old → Unpacked case v 12 old new
   unfolding unpacked_from
   unpack_full n g h inv d =
       let k : 12 - i ≡ 0 = omega arith in
-      whole n h (inv ∙ rw k (append-nil (take i new))) d
+      let e : 12 ≡ i = omega arith in
+      rw e (whole n h (inv ∙ rw k (append-nil (take i new))) d)

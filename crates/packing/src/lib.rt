@@ -2,11 +2,10 @@
 #![tactic(auto)]
 
 ghost use Rattle.std.specs.Prelude.{◌≡◌, ◌+◌, ◌≤◌, ◌<◌, length};
-ghost use Rattle.std.proofs.Math.Seq.{slice};
 ghost use Rattle.packing.specs.Packing.{letter_of, packed, byte_of, Unpacked};
 
 // How a packed word is written.
-#[derive(Clone, Copy)]
+#[derive(Clone, Copy, Debug, PartialEq, Eq)]
 pub enum Case {
     Upper,
     Lower,
@@ -16,25 +15,22 @@ pub enum Case {
 fn letter(b: u8) -> u64
     ensures { (result ≡ letter_of b) × (result < 37) }
 {
-    if b <= b'9' {
-        return if 21 <= b { ((b - 21) % 37) as u64 } else { 0 };
-    }
-    if b <= b'Z' {
-        return if 64 <= b { ((b - 64) % 37) as u64 } else { 0 };
-    }
-    if 96 <= b { ((b - 96) % 37) as u64 } else { 0 }
+    let before = match b {
+        ..=b'9' => 21,
+        ..=b'Z' => 64,
+        _ => 96,
+    };
+    u64::from(b.saturating_sub(before) % 37)
 }
 
-// The word of at most 12 bytes from `from` up to `to` as one number.
-pub fn pack(s: &[u8], from: usize, to: usize) -> u64
-    requires { (from ≤ to) × (to ≤ length s.now) × (to ≤ from + 12) }
-    ensures { result ≡ packed (slice from to s.now) }
+// A word of at most 12 bytes as one number.
+pub fn pack(word: &[u8]) -> u64
+    requires { length word.now ≤ 12 }
+    ensures { result ≡ packed word.now }
 {
     let mut v: u64 = 0;
-    let mut i = to;
-    while from < i {
-        i -= 1;
-        v = v * 37 + letter(s[i]);
+    for b in word.iter().rev() {
+        v = v * 37 + letter(*b);
     }
     v
 }
@@ -59,14 +55,12 @@ pub fn unpack(v: u64, case: Case, out: &mut [u8]) -> usize
     ensures { Unpacked case v result out.old out.new }
 {
     let mut left = v;
-    let mut i = 0;
-    while i < language::WORD_LIMIT {
+    for i in 0..language::WORD_LIMIT {
         if left == 0 {
             return i;
         }
         out[i] = byte(case, (left % 37) as u8);
-        left = left / 37;
-        i += 1;
+        left /= 37;
     }
-    i
+    language::WORD_LIMIT
 }

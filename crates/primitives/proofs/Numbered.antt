@@ -1,7 +1,9 @@
 -- The words on two integers.
+use Rattle.language.specs.declared.stops.Stop.TheVariants.{Bottom}
+use Rattle.language.specs.Charging.{stopped}
 use Prim.Native.Nat.{ℕ, zero, suc, ◌+◌, ◌≤◌, ◌<◌}
 use mathlib.Core.Path.{◌≡◌, refl, sym, ap, ◌∙◌}
-use mathlib.Core.Bool.{Bool, true, false, not}
+use mathlib.Core.Bool.{Bool, true, false}
 use mathlib.Core.List.{List}
 use native.Mathlib.Omega.{arith}
 use lib.Dec.{ltb}
@@ -15,23 +17,16 @@ use Rattle.language.specs.Numbers.{one}
 use Rattle.language.specs.Meanings.{WordAnswer, falls, gives, meaning, pair, on_ints, number, divided}
 use Rattle.language.specs.Evaluation.{charged}
 use Rattle.language.specs.declared.Meter.{Meter}
+use Rattle.language.specs.declared.stops.Stopped.{Stopped}
+use Rattle.std.specs.Prelude.{Ok, Err}
 use Rattle.language.specs.declared.Val.{Val}
 use Rattle.cells.specs.Cells.{Rep, rep_pos, rep_neg, Room, free}
 use Rattle.arithmetic.specs.Integers.{HoldsInteger, holds_pos, holds_neg, Short, Computes, Less}
-use Rattle.primitives.specs.Shapes.{is_integer_val, truth_val, InRange}
-use Rattle.primitives.specs.Ends.{Gives, Sinks}
+use Rattle.primitives.specs.Shapes.{truth_val, BothIntegers, are_both, first_none, second_none, InRange}
+use Rattle.primitives.specs.Ends.{Ended, reached, Gives, Sinks}
 use Rattle.primitives.specs.Leaves.{PlainTwo}
-use Rattle.primitives.specs.declared.Ended.{Ended}
-use Rattle.primitives.specs.declared.Ended.TheVariants.{Done, Stop}
 use Rattle.primitives.proofs.Ending.{end_falls, end_plain, two_falls}
 use Rattle.primitives.proofs.Shaped.{NoInteger, a_symbol, a_seq, no_integer, IntegerOf, integer_of, truth_rep}
-
--- ---- in range, or bottom
-pub range_above : {z : Val} {m : Meter} → 2147483647 < z.word → InRange z m (Stop 21 m)
-range_above h = record { below = λ l. absurd (omega arith); above = λ l. refl }
-
-pub range_below : {z : Val} {m : Meter} → z.word ≤ 2147483647 → InRange z m (Done z m)
-range_below h = record { below = λ l. refl; above = λ l. absurd (omega arith) }
 
 number_in : (o : Op) (z : ℤ) {v : Val} → HoldsInteger v z → v.word < 2147483648 → cells_by (entry o).rule 0 0 ≡ 0 → number one o z ≡ gives 0 0 (int z)
 number_in o (pos k) (holds_pos t w) h e = rw (lt-ltb k 2147483648 (omega arith), number, e)
@@ -70,11 +65,12 @@ second_other (int i) y k a_seq = refl
 second_other (symbol s) y k n = refl
 second_other (seq xs) y k n = refl
 
-pub first_no : {a b : Val} {m : Meter} {o : Op} {k : ℤ → ℤ → WordAnswer} {r : Bool} → OnInts o k → r ≡ is_integer_val a → not r ≡ true → PlainTwo a b m (op o) (Stop 21 m)
-first_no {k = k} w e h = record { means = λ C. two_falls (λ x y z ra rb. on_ints_lem w (pair x y) ∙ first_other x y k (no_integer e h ra)) }
+pub no_ints : {a b : Val} {m : Meter} {o : Op} {k : ℤ → ℤ → WordAnswer} {s : Stopped} → OnInts o k → BothIntegers a b m (Err s) → PlainTwo a b m (op o) (Err s)
+no_ints {k = k} w (first_none e f) = record { means = λ C. rw f (two_falls (λ x y z ra rb. on_ints_lem w (pair x y) ∙ first_other x y k (no_integer e ra))) }
+no_ints {k = k} w (second_none e f) = record { means = λ C. rw f (two_falls (λ x y z ra rb. on_ints_lem w (pair x y) ∙ second_other x y k (no_integer e rb))) }
 
-pub second_no : {a b : Val} {m : Meter} {o : Op} {k : ℤ → ℤ → WordAnswer} {r : Bool} → OnInts o k → r ≡ is_integer_val b → not r ≡ true → PlainTwo a b m (op o) (Stop 21 m)
-second_no {k = k} w e h = record { means = λ C. two_falls (λ x y z ra rb. on_ints_lem w (pair x y) ∙ second_other x y k (no_integer e h rb)) }
+shorts : {a b : Val} {m : Meter} {u : Unit {0}} → BothIntegers a b m (Ok u) → Short a × Short b
+shorts (are_both s t) = (s, t)
 
 -- both are integers
 both_ints : {a b : Val} {o : Op} {k : ℤ → ℤ → WordAnswer} (w : OnInts o k) (x y : Obj) (p : IntegerOf a x) (q : IntegerOf b y) → meaning one (op o) (pair x y) ≡ k p.number q.number
@@ -110,22 +106,22 @@ number_word {a} {b} {z} {m} {r} o f w c sa sb g h = record {
   };
 }
 
-pub add_end : {a b z : Val} {m : Meter} {r : Ended} → Short a → Short b → Computes ◌+ℤ◌ a b z → InRange z m r → PlainTwo a b m (op Op.add) r
-add_end sa sb g h = number_word Op.add ◌+ℤ◌ on_add refl sa sb g h
+pub add_end : {a b z : Val} {m : Meter} {r : Ended} → BothIntegers a b m (Ok tt) → Computes ◌+ℤ◌ a b z → InRange z m r → PlainTwo a b m (op Op.add) r
+add_end w g h = number_word Op.add ◌+ℤ◌ on_add refl (shorts w).0 (shorts w).1 g h
 
-pub sub_end : {a b z : Val} {m : Meter} {r : Ended} → Short a → Short b → Computes ◌-ℤ◌ a b z → InRange z m r → PlainTwo a b m (op Op.sub) r
-sub_end sa sb g h = number_word Op.sub ◌-ℤ◌ on_sub refl sa sb g h
+pub sub_end : {a b z : Val} {m : Meter} {r : Ended} → BothIntegers a b m (Ok tt) → Computes ◌-ℤ◌ a b z → InRange z m r → PlainTwo a b m (op Op.sub) r
+sub_end w g h = number_word Op.sub ◌-ℤ◌ on_sub refl (shorts w).0 (shorts w).1 g h
 
-pub mul_end : {a b z : Val} {m : Meter} {r : Ended} → Short a → Short b → Computes ◌*ℤ◌ a b z → InRange z m r → PlainTwo a b m (op Op.mul) r
-mul_end sa sb g h = number_word Op.mul ◌*ℤ◌ on_mul refl sa sb g h
+pub mul_end : {a b z : Val} {m : Meter} {r : Ended} → BothIntegers a b m (Ok tt) → Computes ◌*ℤ◌ a b z → InRange z m r → PlainTwo a b m (op Op.mul) r
+mul_end w g h = number_word Op.mul ◌*ℤ◌ on_mul refl (shorts w).0 (shorts w).1 g h
 
-pub lt_end : {a b v : Val} {m : Meter} {t : Bool} → Short a → Short b → Less a b t → v ≡ truth_val t → PlainTwo a b m (op Op.lt) (Done v m)
-lt_end {a} {b} {v} {m} {t} sa sb g e = record {
+pub lt_end : {a b v : Val} {m : Meter} {t : Bool} → BothIntegers a b m (Ok tt) → Less a b t → v ≡ truth_val t → PlainTwo a b m (op Op.lt) (reached v m)
+lt_end {a} {b} {v} {m} {t} w g e = record {
   means = λ C. record {
     sinks = (omega arith, refl);
     means = λ x y room ra rb.
-        let p = integer_of sa ra in
-        let q = integer_of sb rb in
+        let p = integer_of (shorts w).0 ra in
+        let q = integer_of (shorts w).1 rb in
         end_plain (truth t) room (both_ints on_lt x y p q ∙ ap (λ (u : Bool). gives 0 0 (truth u)) (sym (g.means p.number q.number p.holds q.holds))) (truth_rep C (free C m) t e);
   };
 }
@@ -141,27 +137,21 @@ divided_is i (pos zero) (holds_pos t w) e = absurd (e (omega arith))
 divided_is i (pos (suc n)) (holds_pos t w) e = refl
 divided_is i (negsuc n) (holds_neg t w) e = refl
 
-pub div-zero : {a b : Val} {m : Meter} → Short a → Short b → b.word + b.tag ≡ 0 → PlainTwo a b m (op Op.div) (Stop 21 m)
-div-zero {a} {b} {m} sa sb e = record {
+pub div-zero : {a b : Val} {m : Meter} → BothIntegers a b m (Ok tt) → b.word + b.tag ≡ 0 → PlainTwo a b m (op Op.div) (stopped Bottom m)
+div-zero {a} {b} {m} w e = record {
   means = λ C. two_falls (λ x y room ra rb.
-      let p = integer_of sa ra in
-      let q = integer_of sb rb in
+      let p = integer_of (shorts w).0 ra in
+      let q = integer_of (shorts w).1 rb in
       both_ints on_div x y p q ∙ divided-zero p.number q.number q.holds e);
 }
 
-pub div_end : {a b z : Val} {m : Meter} {r : Ended} → Short a → Short b → (b.word + b.tag ≡ 0 → ⊥) → Computes quot_z a b z → InRange z m r → PlainTwo a b m (op Op.div) r
-div_end {a} {b} {z} {m} {r} sa sb e g h = record {
+pub div_end : {a b z : Val} {m : Meter} {r : Ended} → BothIntegers a b m (Ok tt) → (b.word + b.tag ≡ 0 → ⊥) → Computes quot_z a b z → InRange z m r → PlainTwo a b m (op Op.div) r
+div_end {a} {b} {z} {m} {r} w e g h = record {
   means = λ C. record {
     sinks = range_sinks z h;
     means = λ x y room ra rb.
-        let p = integer_of sa ra in
-        let q = integer_of sb rb in
+        let p = integer_of (shorts w).0 ra in
+        let q = integer_of (shorts w).1 rb in
         number_end Op.div (quot_z p.number q.number) refl room (both_ints on_div x y p q ∙ divided_is p.number q.number q.holds e) (g.means p.number q.number p.holds q.holds) h;
   };
 }
-
-pub sum_fits : {b : Val} → Short b → b.word + b.tag < 18446744073709551616
-sum_fits s = omega (arith, s.tag, s.word)
-
-pub not-zero : (n : ℕ) → (n ≡ 0 → ⊥) → 0 < n
-not-zero n h = omega (arith, h)

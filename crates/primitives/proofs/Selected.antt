@@ -1,4 +1,6 @@
 -- Sequences and atoms by their tags; the selectors; the first place taken away; the length.
+use Rattle.language.specs.declared.stops.Stop.TheVariants.{Bottom}
+use Rattle.language.specs.Charging.{stopped}
 use Prim.Native.Nat.{ℕ, zero, suc, ◌-◌, ◌≤◌, ◌<◌}
 use mathlib.Core.Path.{◌≡◌, refl, ap, ◌∙◌}
 use mathlib.Core.List.{List}
@@ -17,9 +19,9 @@ use Rattle.cells.specs.Cells.{Rep, rep_pos, rep_neg, rep_symbol, rep_nil, rep_mo
 use Rattle.cells.specs.Parts.{Sized, Tailed, Nth}
 use Rattle.cells.proofs.Lengths.{rep_length}
 use Rattle.arithmetic.specs.Integers.{HoldsInteger, holds_pos}
-use Rattle.primitives.specs.Ends.{Leaf}
+use Rattle.primitives.specs.Shapes.{IsSequence, HasPlace, NoPlace, an_atom, no_first, too_far}
+use Rattle.primitives.specs.Ends.{reached, Leaf}
 use Rattle.primitives.specs.Leaves.{Plain}
-use Rattle.primitives.specs.declared.Ended.TheVariants.{Done, Stop}
 use Rattle.primitives.proofs.Ending.{end_plain, leaf_falls, free_low, free_under}
 
 -- ---- no sequence; a sequence
@@ -74,34 +76,48 @@ right_in : (k n : ℕ) → (k ≡ 0 → ⊥) → k ≤ n → from_right k n ≡ 
 right_in zero n z h = absurd (z refl)
 right_in (suc j) n z h = rw (lt-ltb j n (omega arith), from_right)
 
-pub select_atom : {C : List ℕ} {v : Val} {m : Meter} {k : ℕ} → (v.tag ≡ 3 → ⊥) → Leaf C v m (select k) (Stop 21 m) C
+select_atom : {C : List ℕ} {v : Val} {m : Meter} {k : ℕ} → (v.tag ≡ 3 → ⊥) → Leaf C v m (select k) (stopped Bottom m) C
 select_atom {k = k} h = leaf_falls (λ x o r. no_seq h r (λ xs. pick (from_left k (length_of xs)) xs))
 
-pub right_atom : {C : List ℕ} {v : Val} {m : Meter} {k : ℕ} → (v.tag ≡ 3 → ⊥) → Leaf C v m (select_right k) (Stop 21 m) C
+right_atom : {C : List ℕ} {v : Val} {m : Meter} {k : ℕ} → (v.tag ≡ 3 → ⊥) → Leaf C v m (select_right k) (stopped Bottom m) C
 right_atom {k = k} h = leaf_falls (λ x o r. no_seq h r (λ xs. pick (from_right k (length_of xs)) xs))
 
-pub select_zero : {C : List ℕ} {v : Val} {m : Meter} {k : ℕ} → v.tag ≡ 3 → k ≡ 0 → Leaf C v m (select k) (Stop 21 m) C
+select_zero : {C : List ℕ} {v : Val} {m : Meter} {k : ℕ} → v.tag ≡ 3 → k ≡ 0 → Leaf C v m (select k) (stopped Bottom m) C
 select_zero h z = leaf_falls (λ x o r. rw ((seq_of h r).is, z))
 
-pub right_zero : {C : List ℕ} {v : Val} {m : Meter} {k : ℕ} → v.tag ≡ 3 → k ≡ 0 → Leaf C v m (select_right k) (Stop 21 m) C
+right_zero : {C : List ℕ} {v : Val} {m : Meter} {k : ℕ} → v.tag ≡ 3 → k ≡ 0 → Leaf C v m (select_right k) (stopped Bottom m) C
 right_zero h z = leaf_falls (λ x o r. rw ((seq_of h r).is, z))
 
-pub select_far : {C : List ℕ} {v : Val} {m : Meter} {k n : ℕ} → v.tag ≡ 3 → Sized v n → n < k → Leaf C v m (select k) (Stop 21 m) C
+select_far : {C : List ℕ} {v : Val} {m : Meter} {k n : ℕ} → v.tag ≡ 3 → Sized v n → n < k → Leaf C v m (select k) (stopped Bottom m) C
 select_far {C} {m = m} {k = k} h s l = leaf_falls (λ x o r.
     let q = seq_of h r in
     let e = s.means C (free C m) q.places (free_under C m o) q.rep in
     rw q.is (ap (λ (t : Option ℕ). pick t q.places) (left_far k (length_of q.places) (omega (arith, e)))))
 
-pub right_past : {C : List ℕ} {v : Val} {m : Meter} {k n : ℕ} → v.tag ≡ 3 → Sized v n → n < k → Leaf C v m (select_right k) (Stop 21 m) C
+right_past : {C : List ℕ} {v : Val} {m : Meter} {k n : ℕ} → v.tag ≡ 3 → Sized v n → n < k → Leaf C v m (select_right k) (stopped Bottom m) C
 right_past {C} {m = m} {k = k} h s l = leaf_falls (λ x o r.
     let q = seq_of h r in
     let e = s.means C (free C m) q.places (free_under C m o) q.rep in
     rw q.is (ap (λ (t : Option ℕ). pick t q.places) (right_far k (length_of q.places) (omega (arith, e)))))
 
-pub select_is : {C : List ℕ} {v r : Val} {m : Meter} {k n : ℕ} → v.tag ≡ 3 → (k ≡ 0 → ⊥) → Sized v n → k ≤ n → Nth C v (k - 1) r → Leaf C v m (select k) (Done r m) C
-select_is {C} {m = m} {k = k} h z s l t = record {
+pub select_none : {C : List ℕ} {v : Val} {m : Meter} {k : ℕ} → NoPlace k v → Leaf C v m (select k) (stopped Bottom m) C
+select_none (an_atom h) = select_atom h
+select_none (no_first h z) = select_zero h z
+select_none (too_far h s l) = select_far h s l
+
+pub right_none : {C : List ℕ} {v : Val} {m : Meter} {k : ℕ} → NoPlace k v → Leaf C v m (select_right k) (stopped Bottom m) C
+right_none (an_atom h) = right_atom h
+right_none (no_first h z) = right_zero h z
+right_none (too_far h s l) = right_past h s l
+
+pub select_is : {C : List ℕ} {v r : Val} {m : Meter} {k n : ℕ} → HasPlace k v n → Nth C v (k - 1) r → Leaf C v m (select k) (reached r m) C
+select_is {C} {m = m} {k = k} p t = record {
   sinks = (omega arith, refl);
   means = λ x o r.
+      let h = p.sequence.tag in
+      let z = p.first in
+      let s = p.sequence.size in
+      let l = p.last in
       let q = seq_of h r in
       let u = free_under C m o in
       let e = s.means C (free C m) q.places u q.rep in
@@ -112,10 +128,14 @@ select_is {C} {m = m} {k = k} h z s l t = record {
     below : (k n : ℕ) → (k ≡ 0 → ⊥) → k ≤ n → k - 1 < n
     below k n z l = omega (arith, z)
 
-pub right_is : {C : List ℕ} {v r : Val} {m : Meter} {k n : ℕ} → v.tag ≡ 3 → (k ≡ 0 → ⊥) → Sized v n → k ≤ n → Nth C v (n - k) r → Leaf C v m (select_right k) (Done r m) C
-right_is {C} {v} {r} {m = m} {k = k} {n = n} h z s l t = record {
+pub right_is : {C : List ℕ} {v r : Val} {m : Meter} {k n : ℕ} → HasPlace k v n → Nth C v (n - k) r → Leaf C v m (select_right k) (reached r m) C
+right_is {C} {v} {r} {m = m} {k = k} {n = n} p t = record {
   sinks = (omega arith, refl);
   means = λ x o w.
+      let h = p.sequence.tag in
+      let z = p.first in
+      let s = p.sequence.size in
+      let l = p.last in
       let q = seq_of h w in
       let u = free_under C m o in
       let e = s.means C (free C m) q.places u q.rep in
@@ -128,7 +148,7 @@ right_is {C} {v} {r} {m = m} {k = k} {n = n} h z s l t = record {
     below k n z l e = omega (arith, z)
 
 -- ---- tl
-pub tl_atom : {C : List ℕ} {v : Val} {m : Meter} → (v.tag ≡ 3 → ⊥) → Leaf C v m (op Op.tl) (Stop 21 m) C
+pub tl_atom : {C : List ℕ} {v : Val} {m : Meter} → (v.tag ≡ 3 → ⊥) → Leaf C v m (op Op.tl) (stopped Bottom m) C
 tl_atom h = leaf_falls (λ x o r. no_full h r (λ y ys. gives 0 0 (seq ys)))
 
 pub full_none : {C : List ℕ} {n i : ℕ} {v : Val} {x : Obj} → n < 4294967296 → Sized v i → i ≡ 0 → Rep C n v x → (k : Obj → Objs → WordAnswer) → on_full x k ≡ falls
@@ -138,7 +158,7 @@ full_none u s z (rep_symbol t i e) k = refl
 full_none u s z (rep_nil t e) k = refl
 full_none {C} {n} {v = v} u s z (rep_more {p = p} {x = x} {xs = xs} t e l a b) k = absurd (omega (arith, s.means C n (x :: xs) u (rep_more {v = v} {p = p} {x = x} {xs = xs} t e l a b)))
 
-pub tl_none : {C : List ℕ} {v : Val} {m : Meter} {n : ℕ} → Sized v n → n ≡ 0 → Leaf C v m (op Op.tl) (Stop 21 m) C
+pub tl_none : {C : List ℕ} {v : Val} {m : Meter} {n : ℕ} → Sized v n → n ≡ 0 → Leaf C v m (op Op.tl) (stopped Bottom m) C
 tl_none {C} {m = m} s z = leaf_falls (λ x o r. full_none (free_under C m o) s z r (λ y ys. gives 0 0 (seq ys)))
 
 -- a sequence with a first place
@@ -155,7 +175,7 @@ full_places (x :: xs) u s z e r = record { first = x; others = xs; is = e; rep =
 pub full_of : {C : List ℕ} {n i : ℕ} {v : Val} {x : Obj} → n < 4294967296 → v.tag ≡ 3 → Sized v i → (i ≡ 0 → ⊥) → Rep C n v x → FullOf C n v x
 full_of u h s z r = let q = seq_of h r in full_places q.places u s z q.is q.rep
 
-pub tl_is : {C : List ℕ} {v r : Val} {m : Meter} {n : ℕ} → v.tag ≡ 3 → Sized v n → (n ≡ 0 → ⊥) → Tailed C v r → Leaf C v m (op Op.tl) (Done r m) C
+pub tl_is : {C : List ℕ} {v r : Val} {m : Meter} {n : ℕ} → v.tag ≡ 3 → Sized v n → (n ≡ 0 → ⊥) → Tailed C v r → Leaf C v m (op Op.tl) (reached r m) C
 tl_is {C} {m = m} h s z t = record {
   sinks = (omega arith, refl);
   means = λ x o r.
@@ -165,7 +185,7 @@ tl_is {C} {m = m} h s z t = record {
 }
 
 -- ---- length
-pub length_atom : {v : Val} {m : Meter} → (v.tag ≡ 3 → ⊥) → Plain v m (op Op.length) (Stop 21 m)
+pub length_atom : {v : Val} {m : Meter} → (v.tag ≡ 3 → ⊥) → Plain v m (op Op.length) (stopped Bottom m)
 length_atom h = record { means = λ C. leaf_falls (λ x o r. no_seq h r (λ xs. number one Op.length (pos (length_of xs)))) }
 
 -- a length in range is the number given
@@ -175,11 +195,14 @@ length_given k h = rw (lt-ltb k 2147483648 h, number)
 count_rep : (C : List ℕ) (n k : ℕ) {v : Val} → HoldsInteger v (pos k) → k < 2147483648 → Rep C n v (int (pos k))
 count_rep C n k (holds_pos t w) h = rep_pos t w h
 
-pub length_is : {v r : Val} {m : Meter} {n : ℕ} → v.tag ≡ 3 → Sized v n → HoldsInteger r (pos n) → Plain v m (op Op.length) (Done r m)
-length_is {v} {r} {m} {n} h s g = record {
+pub length_is : {v r : Val} {m : Meter} {n k : ℕ} → IsSequence v n → k ≡ n → HoldsInteger r (pos k) → Plain v m (op Op.length) (reached r m)
+length_is {v} {r} {m} {n} t a b = record {
   means = λ C. record {
     sinks = (omega arith, refl);
     means = λ x o w.
+        let h = t.tag in
+        let s = t.size in
+        let g : HoldsInteger r (pos n) = rw a at b in
         let q = seq_of h w in
         let u = free_under C m o in
         let e : n ≡ length_of q.places = s.means C (free C m) q.places u q.rep in

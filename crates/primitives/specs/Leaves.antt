@@ -10,10 +10,12 @@ use Rattle.language.specs.declared.Meter.{Meter}
 use Rattle.language.specs.declared.Val.{Val}
 use Rattle.cells.specs.Cells.{Rep, Room, free}
 use Rattle.sequences.specs.Making.{Rearranged, all_but_last}
+use Rattle.lexer.specs.declared.vocabulary.Primitive.{Primitive}
+use Rattle.lexer.specs.declared.vocabulary.Primitive.TheVariants as P
 use Rattle.lexer.specs.Vocabulary.{op_code}
-use Rattle.primitives.specs.Ends.{Gives, Sinks, Leaf}
-use Rattle.primitives.specs.declared.Ended.{Ended}
-use Rattle.primitives.specs.declared.Ended.TheVariants.{Stop}
+use Rattle.language.specs.Charging.{stopped}
+use Rattle.language.specs.declared.stops.Stop.TheVariants.{Bottom}
+use Rattle.primitives.specs.Ends.{Ended, Gives, Sinks, Leaf}
 
 -- the word w on a pair
 pub record LeafTwo (C : List ℕ) (a b : Val) (m : Meter) (w : Word) (r : Ended) (C' : List ℕ) : Type 0 where
@@ -30,7 +32,7 @@ pub record PlainTwo (a b : Val) (m : Meter) (w : Word) (r : Ended) : Type 0 wher
 -- the word with a code
 pub record Coded (C : List ℕ) (v : Val) (m : Meter) (code : ℕ) (r : Ended) (C' : List ℕ) : Type 0 where
   pub sinks : Sinks r m
-  pub past : 22 < code → r ≡ Stop 21 m
+  pub past : 22 < code → r ≡ stopped Bottom m
   pub means : (o : Op) → op_code o ≡ code → Leaf C v m (op o) r C'
 
 -- the words that ask for a pair
@@ -62,25 +64,25 @@ takes_pair Op.trans = false
 -- a word with a code that asks for a pair, on a pair and on any value
 pub record CodedTwo (C : List ℕ) (a b : Val) (m : Meter) (code : ℕ) (r : Ended) (C' : List ℕ) : Type 0 where
   pub sinks : Sinks r m
-  pub past : 22 < code → r ≡ Stop 21 m
+  pub past : 22 < code → r ≡ stopped Bottom m
   pub means : (o : Op) → op_code o ≡ code → takes_pair o ≡ true → LeafTwo C a b m (op o) r C'
 
 pub record CodedPair (C : List ℕ) (v : Val) (m : Meter) (code : ℕ) (r : Ended) (C' : List ℕ) : Type 0 where
   pub sinks : Sinks r m
-  pub past : 22 < code → r ≡ Stop 21 m
+  pub past : 22 < code → r ≡ stopped Bottom m
   pub means : (o : Op) → op_code o ≡ code → takes_pair o ≡ true → Leaf C v m (op o) r C'
 
--- the words that give a sequence's places in another order, or all but the last, by their codes
-pub data Orders : ℕ → Op → (Objs → Objs) → Type 0 where
-  order_tlr : Orders 15 Op.tlr all_but_last
-  order_reverse : Orders 16 Op.reverse turned
-  order_rotl : Orders 17 Op.rotl to_left
-  order_rotr : Orders 18 Op.rotr to_right
+-- the words that give a sequence's places in another order, or all but the last
+pub data Orders : Primitive → Op → (Objs → Objs) → Type 0 where
+  order_tlr : Orders P.Tlr Op.tlr all_but_last
+  order_reverse : Orders P.Reverse Op.reverse turned
+  order_rotl : Orders P.Rotl Op.rotl to_left
+  order_rotr : Orders P.Rotr Op.rotr to_right
 
-pub record Arranged (C : List ℕ) (v : Val) (code n p : ℕ) (r : Val) (C' : List ℕ) : Type 0 where
-  pub means : (o : Op) (f : Objs → Objs) → Orders code o f → Rearranged f C v n p r C'
+pub record Arranged (C : List ℕ) (v : Val) (word : Primitive) (n p : ℕ) (r : Val) (C' : List ℕ) : Type 0 where
+  pub means : (o : Op) (f : Objs → Objs) → Orders word o f → Rearranged f C v n p r C'
 
 -- such a word on a sequence
-pub record Ordered (C : List ℕ) (v : Val) (m : Meter) (code : ℕ) (r : Ended) (C' : List ℕ) : Type 0 where
+pub record Ordered (C : List ℕ) (v : Val) (m : Meter) (word : Primitive) (r : Ended) (C' : List ℕ) : Type 0 where
   pub sinks : Sinks r m
-  pub means : (o : Op) (f : Objs → Objs) (x : Obj) → Orders code o f → Room C m → Rep C (free C m) v x → Gives C m C' (charged (on_seq x (λ xs. made o (length_of xs) 0 (seq (f xs)))) m) r
+  pub means : (o : Op) (f : Objs → Objs) (x : Obj) → Orders word o f → Room C m → Rep C (free C m) v x → Gives C m C' (charged (on_seq x (λ xs. made o (length_of xs) 0 (seq (f xs)))) m) r

@@ -1,10 +1,11 @@
 // The words of document 01's table on cells. A word gives bottom before it asks for cells, and asks for all of them at once.
 #![tactic(auto)]
 
+ghost use Rattle.lexer.specs.Vocabulary.{op_code, op_of};
 ghost use Rattle.primitives.specs.Leaves.{Coded, CodedPair, CodedTwo};
 
-use language::{Meter, Val};
-use lexer::codes;
+use language::{Meter, Stopped, Val};
+use lexer::Primitive;
 
 mod appending;
 mod asking;
@@ -18,75 +19,83 @@ mod truths;
 pub use selectors::{select, select_right};
 pub use shapes::truth_of;
 
-// How an application ends: with a value, or with the answer table's number of why it stopped (21 bottom; 22, 23, 24 a
-// spent budget), and what is left of the budgets.
-#[derive(Clone, Copy)]
-pub enum Ended {
-    Done(Val, Meter),
-    Stop(u32, Meter),
+// What an application gives: a value, and what is left of the budgets.
+#[derive(Clone, Copy, Debug, PartialEq, Eq)]
+pub struct Reached {
+    pub value: Val,
+    pub meter: Meter,
 }
 
-// What is read where a pair is asked for.
-#[derive(Clone, Copy)]
-pub enum Two {
-    Both(Val, Val),
-    Other,
+// Cells that were asked for: the first one's number, and the meter without them.
+#[derive(Clone, Copy, Debug, PartialEq, Eq)]
+pub struct Reserved {
+    pub first: u32,
+    pub meter: Meter,
 }
 
-// Cells that were asked for: the first one's number and the meter without them, or too few are left.
-#[derive(Clone, Copy)]
-pub enum Reserved {
-    At(u32, Meter),
-    Short(Meter),
-}
-
-// The word with this code on the value v.
-pub fn apply_word(code: u32, c: &mut [u32], v: Val, m: Meter) -> Ended
+// The word with this code on the value v; bottom past the table.
+pub fn apply_word(code: u32, c: &mut [u32], v: Val, m: Meter) -> Result<Reached, Stopped>
     ensures { Coded c.old v m code result c.new }
 {
-    match code {
-        codes::ID => Ended::Done(v, m),
-        codes::TL => places::tl(c, v, m),
-        codes::ATOM => truths::atom(v, m),
-        codes::NULL => truths::null(v, m),
-        codes::LENGTH => places::length(v, m),
-        codes::NOT => truths::not(v, m),
-        codes::TLR => places::tlr(c, v, m),
-        codes::REVERSE => places::arrange(codes::REVERSE, c, v, m),
-        codes::ROTL => places::arrange(codes::ROTL, c, v, m),
-        codes::ROTR => places::arrange(codes::ROTR, c, v, m),
-        codes::TRANS => transposing::trans(c, v, m),
-        _ => apply_to_pair(code, c, v, m),
+    match Primitive::try_from(code) {
+        Ok(word) => apply(word, c, v, m),
+        Err(_) => Err(Stopped::bottom(m)),
+    }
+}
+
+// A word on the value v.
+fn apply(word: Primitive, c: &mut [u32], v: Val, m: Meter) -> Result<Reached, Stopped>
+    ensures { Coded c.old v m (op_code (op_of word)) result c.new }
+{
+    match word {
+        Primitive::Id => Ok(Reached { value: v, meter: m }),
+        Primitive::Tl => places::tl(c, v, m),
+        Primitive::Atom => truths::atom(v, m),
+        Primitive::Null => truths::null(v, m),
+        Primitive::Length => places::length(v, m),
+        Primitive::Not => truths::not(v, m),
+        Primitive::Tlr => places::tlr(c, v, m),
+        Primitive::Reverse => places::arrange(Primitive::Reverse, c, v, m),
+        Primitive::Rotl => places::arrange(Primitive::Rotl, c, v, m),
+        Primitive::Rotr => places::arrange(Primitive::Rotr, c, v, m),
+        Primitive::Trans => transposing::trans(c, v, m),
+        _ => apply_to_pair(word, c, v, m),
     }
 }
 
 // A word that asks for a pair.
-fn apply_to_pair(code: u32, c: &mut [u32], v: Val, m: Meter) -> Ended
-    ensures { CodedPair c.old v m code result c.new }
+fn apply_to_pair(word: Primitive, c: &mut [u32], v: Val, m: Meter) -> Result<Reached, Stopped>
+    ensures { CodedPair c.old v m (op_code (op_of word)) result c.new }
 {
     match shapes::two(c, v) {
-        Two::Other => Ended::Stop(language::BOTTOM, m),
-        Two::Both(a, b) => apply_to_two(code, c, a, b, m),
+        None => Err(Stopped::bottom(m)),
+        Some((a, b)) => apply_to_two(word, c, a, b, m),
     }
 }
 
-// The word with this code on the pair of a and b.
-fn apply_to_two(code: u32, c: &mut [u32], a: Val, b: Val, m: Meter) -> Ended
-    ensures { CodedTwo c.old a b m code result c.new }
+// A word on the pair of a and b.
+fn apply_to_two(
+    word: Primitive,
+    c: &mut [u32],
+    a: Val,
+    b: Val,
+    m: Meter,
+) -> Result<Reached, Stopped>
+    ensures { CodedTwo c.old a b m (op_code (op_of word)) result c.new }
 {
-    match code {
-        codes::EQ => truths::eq(c, a, b, m),
-        codes::LT => numbers::lt(a, b, m),
-        codes::ADD => numbers::add(a, b, m),
-        codes::SUB => numbers::sub(a, b, m),
-        codes::MUL => numbers::mul(a, b, m),
-        codes::DIV => numbers::div(a, b, m),
-        codes::AND => truths::and(a, b, m),
-        codes::OR => truths::or(a, b, m),
-        codes::APNDL => appending::apndl(c, a, b, m),
-        codes::APNDR => appending::apndr(c, a, b, m),
-        codes::DISTL => appending::distl(c, a, b, m),
-        codes::DISTR => appending::distr(c, a, b, m),
-        _ => Ended::Stop(language::BOTTOM, m),
+    match word {
+        Primitive::Eq => truths::eq(c, a, b, m),
+        Primitive::Lt => numbers::lt(a, b, m),
+        Primitive::Add => numbers::add(a, b, m),
+        Primitive::Sub => numbers::sub(a, b, m),
+        Primitive::Mul => numbers::mul(a, b, m),
+        Primitive::Div => numbers::div(a, b, m),
+        Primitive::And => truths::and(a, b, m),
+        Primitive::Or => truths::or(a, b, m),
+        Primitive::Apndl => appending::apndl(c, a, b, m),
+        Primitive::Apndr => appending::apndr(c, a, b, m),
+        Primitive::Distl => appending::distl(c, a, b, m),
+        Primitive::Distr => appending::distr(c, a, b, m),
+        _ => Err(Stopped::bottom(m)),
     }
 }

@@ -2,80 +2,68 @@
 ghost use Rattle.language.specs.Forms.{op};
 ghost use Rattle.language.specs.Words.{Op};
 ghost use Rattle.primitives.specs.Leaves.{PlainTwo};
-ghost use Rattle.primitives.specs.Shapes.{InRange};
+ghost use Rattle.primitives.specs.Shapes.{BothIntegers, InRange};
 
-use super::{Ended, shapes};
-use language::{Meter, Val};
+use super::{Reached, shapes};
+use language::{Meter, Stopped, Val};
 
 // The integer that z holds, or bottom where it is out of range.
-fn ranged(z: Val, m: Meter) -> Ended
+fn ranged(z: Val, m: Meter) -> Result<Reached, Stopped>
     ensures { InRange z m result }
 {
     if language::LARGEST < z.word {
-        return Ended::Stop(language::BOTTOM, m);
+        return Err(Stopped::bottom(m));
     }
-    Ended::Done(z, m)
+    Ok(Reached { value: z, meter: m })
 }
 
-pub fn lt(a: Val, b: Val, m: Meter) -> Ended
+// Nothing where both are integers, else bottom.
+fn both_integers(a: Val, b: Val, m: Meter) -> Result<(), Stopped>
+    ensures { BothIntegers a b m result }
+{
+    if shapes::is_integer(a) && shapes::is_integer(b) {
+        return Ok(());
+    }
+    Err(Stopped::bottom(m))
+}
+
+pub fn lt(a: Val, b: Val, m: Meter) -> Result<Reached, Stopped>
     ensures { PlainTwo a b m (op Op.lt) result }
 {
-    if !shapes::is_integer(a) {
-        return Ended::Stop(language::BOTTOM, m);
-    }
-    if !shapes::is_integer(b) {
-        return Ended::Stop(language::BOTTOM, m);
-    }
-    Ended::Done(shapes::truth(arithmetic::is_less(a, b)), m)
+    both_integers(a, b, m)?;
+    Ok(Reached {
+        value: shapes::truth(arithmetic::is_less(a, b)),
+        meter: m,
+    })
 }
 
-pub fn add(a: Val, b: Val, m: Meter) -> Ended
+pub fn add(a: Val, b: Val, m: Meter) -> Result<Reached, Stopped>
     ensures { PlainTwo a b m (op Op.add) result }
 {
-    if !shapes::is_integer(a) {
-        return Ended::Stop(language::BOTTOM, m);
-    }
-    if !shapes::is_integer(b) {
-        return Ended::Stop(language::BOTTOM, m);
-    }
+    both_integers(a, b, m)?;
     ranged(arithmetic::add(a, b), m)
 }
 
-pub fn sub(a: Val, b: Val, m: Meter) -> Ended
+pub fn sub(a: Val, b: Val, m: Meter) -> Result<Reached, Stopped>
     ensures { PlainTwo a b m (op Op.sub) result }
 {
-    if !shapes::is_integer(a) {
-        return Ended::Stop(language::BOTTOM, m);
-    }
-    if !shapes::is_integer(b) {
-        return Ended::Stop(language::BOTTOM, m);
-    }
+    both_integers(a, b, m)?;
     ranged(arithmetic::subtract(a, b), m)
 }
 
-pub fn mul(a: Val, b: Val, m: Meter) -> Ended
+pub fn mul(a: Val, b: Val, m: Meter) -> Result<Reached, Stopped>
     ensures { PlainTwo a b m (op Op.mul) result }
 {
-    if !shapes::is_integer(a) {
-        return Ended::Stop(language::BOTTOM, m);
-    }
-    if !shapes::is_integer(b) {
-        return Ended::Stop(language::BOTTOM, m);
-    }
+    both_integers(a, b, m)?;
     ranged(arithmetic::multiply(a, b), m)
 }
 
-pub fn div(a: Val, b: Val, m: Meter) -> Ended
+pub fn div(a: Val, b: Val, m: Meter) -> Result<Reached, Stopped>
     ensures { PlainTwo a b m (op Op.div) result }
 {
-    if !shapes::is_integer(a) {
-        return Ended::Stop(language::BOTTOM, m);
-    }
-    if !shapes::is_integer(b) {
-        return Ended::Stop(language::BOTTOM, m);
-    }
+    both_integers(a, b, m)?;
     if b.word + b.tag as u64 == 0 {
-        return Ended::Stop(language::BOTTOM, m);
+        return Err(Stopped::bottom(m));
     }
     ranged(arithmetic::divide(a, b), m)
 }

@@ -1,22 +1,28 @@
 // What a value shows of its object: a pair, an integer, a truth value, an atom.
 ghost use Rattle.std.specs.Prelude.{◌≡◌};
-ghost use Rattle.primitives.specs.Shapes.{ReadTwo, is_integer_val, truth_val, ReadTruth, ReadAtom, ReadNull};
+ghost use Rattle.primitives.specs.Shapes.{ReadPlaces, ReadTwo, is_integer_val, truth_val, ReadTruth, ReadAtom, ReadNull};
 
-use super::Two;
-use language::Val;
+use language::{Meter, Stopped, Val};
 
-// The two values of a pair.
-pub fn two(c: &[u32], v: Val) -> Two
-    ensures { ReadTwo c.now v result }
+// How many places a sequence has; bottom for an atom.
+pub fn places(v: Val, m: Meter) -> Result<u32, Stopped>
+    ensures { ReadPlaces v m result }
 {
     if v.tag != language::SEQUENCE {
-        return Two::Other;
+        return Err(Stopped::bottom(m));
     }
-    if cells::size(v) != 2 {
-        return Two::Other;
+    Ok(cells::size(v))
+}
+
+// The two values of a pair.
+pub fn two(c: &[u32], v: Val) -> Option<(Val, Val)>
+    ensures { ReadTwo c.now v result }
+{
+    if v.tag != language::SEQUENCE || cells::size(v) != 2 {
+        return None;
     }
     let rest = cells::tail(c, v);
-    Two::Both(cells::head(c, v), cells::head(c, rest))
+    Some((cells::head(c, v), cells::head(c, rest)))
 }
 
 // Whether it is an integer.
@@ -51,20 +57,18 @@ pub fn truth(b: bool) -> Val
     }
 }
 
-// 1 for the symbol T, 0 for F, 2 for anything else.
-pub fn truth_of(v: Val) -> u32
+// Whether it is the symbol T, where it is T or F.
+pub fn truth_of(v: Val) -> Option<bool>
     ensures { ReadTruth v result }
 {
     if v.tag != language::SYMBOL {
-        return 2;
+        return None;
     }
-    if v.word == TRUE {
-        return 1;
+    match v.word {
+        TRUE => Some(true),
+        FALSE => Some(false),
+        _ => None,
     }
-    if v.word == FALSE {
-        return 0;
-    }
-    2
 }
 
 // Whether it is an atom: no sequence, or the empty one.

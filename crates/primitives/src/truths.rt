@@ -2,74 +2,77 @@
 ghost use Rattle.language.specs.Forms.{op};
 ghost use Rattle.language.specs.Words.{Op};
 ghost use Rattle.primitives.specs.Leaves.{LeafTwo, Plain, PlainTwo};
+ghost use Rattle.primitives.specs.Shapes.{TwoTruths};
 
-use super::{Ended, shapes};
-use equality::Compared;
-use language::{Meter, Val};
+use super::{Reached, shapes};
+use language::{Meter, Stopped, Val};
 
-pub fn atom(v: Val, m: Meter) -> Ended
+pub fn atom(v: Val, m: Meter) -> Result<Reached, Stopped>
     ensures { Plain v m (op Op.atom) result }
 {
-    Ended::Done(shapes::truth(shapes::is_atom(v)), m)
+    Ok(Reached {
+        value: shapes::truth(shapes::is_atom(v)),
+        meter: m,
+    })
 }
 
-pub fn null(v: Val, m: Meter) -> Ended
+pub fn null(v: Val, m: Meter) -> Result<Reached, Stopped>
     ensures { Plain v m (op Op.null) result }
 {
-    Ended::Done(shapes::truth(shapes::is_null(v)), m)
+    Ok(Reached {
+        value: shapes::truth(shapes::is_null(v)),
+        meter: m,
+    })
 }
 
-pub fn not(v: Val, m: Meter) -> Ended
+pub fn not(v: Val, m: Meter) -> Result<Reached, Stopped>
     ensures { Plain v m (op Op.not) result }
 {
-    let x = shapes::truth_of(v);
-    if x == 2 {
-        return Ended::Stop(language::BOTTOM, m);
+    match shapes::truth_of(v) {
+        Some(x) => Ok(Reached {
+            value: shapes::truth(!x),
+            meter: m,
+        }),
+        None => Err(Stopped::bottom(m)),
     }
-    Ended::Done(shapes::truth(x == 0), m)
 }
 
-pub fn and(a: Val, b: Val, m: Meter) -> Ended
+// The two truth values, or bottom where either is none.
+fn two_truths(a: Val, b: Val, m: Meter) -> Result<(bool, bool), Stopped>
+    ensures { TwoTruths a b m result }
+{
+    let x = shapes::truth_of(a).ok_or(Stopped::bottom(m))?;
+    let y = shapes::truth_of(b).ok_or(Stopped::bottom(m))?;
+    Ok((x, y))
+}
+
+pub fn and(a: Val, b: Val, m: Meter) -> Result<Reached, Stopped>
     ensures { PlainTwo a b m (op Op.and) result }
 {
-    let x = shapes::truth_of(a);
-    let y = shapes::truth_of(b);
-    if x == 2 {
-        return Ended::Stop(language::BOTTOM, m);
-    }
-    if y == 2 {
-        return Ended::Stop(language::BOTTOM, m);
-    }
-    if x == 0 {
-        return Ended::Done(shapes::truth(false), m);
-    }
-    Ended::Done(shapes::truth(y == 1), m)
+    let (x, y) = two_truths(a, b, m)?;
+    Ok(Reached {
+        value: shapes::truth(x & y),
+        meter: m,
+    })
 }
 
-pub fn or(a: Val, b: Val, m: Meter) -> Ended
+pub fn or(a: Val, b: Val, m: Meter) -> Result<Reached, Stopped>
     ensures { PlainTwo a b m (op Op.or) result }
 {
-    let x = shapes::truth_of(a);
-    let y = shapes::truth_of(b);
-    if x == 2 {
-        return Ended::Stop(language::BOTTOM, m);
-    }
-    if y == 2 {
-        return Ended::Stop(language::BOTTOM, m);
-    }
-    if x == 1 {
-        return Ended::Done(shapes::truth(true), m);
-    }
-    Ended::Done(shapes::truth(y == 1), m)
+    let (x, y) = two_truths(a, b, m)?;
+    Ok(Reached {
+        value: shapes::truth(x | y),
+        meter: m,
+    })
 }
 
 // A step more for each pair of objects looked at.
-pub fn eq(c: &[u32], a: Val, b: Val, m: Meter) -> Ended
+pub fn eq(c: &[u32], a: Val, b: Val, m: Meter) -> Result<Reached, Stopped>
     ensures { LeafTwo c.now a b m (op Op.eq) result c.now }
 {
-    match equality::same(c, a, b, m) {
-        Compared::Equal(k) => Ended::Done(shapes::truth(true), k),
-        Compared::Differ(k) => Ended::Done(shapes::truth(false), k),
-        Compared::Out(k) => Ended::Stop(language::STEPS_SPENT, k),
-    }
+    let seen = equality::same(c, a, b, m)?;
+    Ok(Reached {
+        value: shapes::truth(seen.same),
+        meter: seen.meter,
+    })
 }

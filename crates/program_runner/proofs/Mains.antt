@@ -16,7 +16,7 @@ use Rattle.tables.specs.Tables.{put}
 use Rattle.cells.specs.Cells.{free}
 use Rattle.formtable.specs.Encoding.{encode_definitions}
 use Rattle.formtable.specs.Standing.{bodies}
-use Rattle.primitives.specs.declared.Ended.{Ended}
+use Rattle.primitives.specs.Ends.{Ended}
 use Rattle.linker.specs.Linked.{DefAt}
 use Rattle.linker.specs.Roots.{root_from, root_in}
 use Rattle.linker.specs.Linking.{AllLinked}

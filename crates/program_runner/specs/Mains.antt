@@ -12,8 +12,7 @@ use Rattle.tables.specs.Tables.{put}
 use Rattle.cells.specs.Cells.{Rep, Room, free}
 use Rattle.formtable.specs.Encoding.{encode_definitions}
 use Rattle.formtable.specs.Standing.{Stands, bodies}
-use Rattle.primitives.specs.declared.Ended.{Ended}
-use Rattle.primitives.specs.Ends.{Gives}
+use Rattle.primitives.specs.Ends.{Ended, Gives}
 
 -- the program of these definitions stands: `total` forms from record 0 on, and a record for each of its `many` definitions
 pub record Loaded (placed : List Placed) (T : List ℕ) (total : ℕ) (D : List ℕ) (many : ℕ) (C : List ℕ) (m : Meter) : Type 0 where

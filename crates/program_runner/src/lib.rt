@@ -6,8 +6,8 @@ ghost use Rattle.language.specs.Bytes.{bytes};
 ghost use Rattle.linker.specs.Roots.{root_in};
 ghost use Rattle.program_runner.specs.Mains.{MainApplied};
 
-use language::{Meter, Val};
-use primitives::Ended;
+use language::{Meter, Stopped, Val};
+use primitives::Reached;
 
 // The word main, packed: m, a, i and n, base 37, the first letter lowest.
 const MAIN: u32 = 13 + 37 * (1 + 37 * (9 + 37 * 14));
@@ -28,7 +28,7 @@ pub fn apply_main(
     c: &mut [u32],
     v: Val,
     m: Meter,
-) -> Ended
+) -> Result<Reached, Stopped>
     ensures { MainApplied forms.old total definitions.now many c.old v m result c.new }
 {
     linker::link(forms, total, definitions, many);

@@ -20,12 +20,13 @@ use Rattle.theorems.proofs.Decimals.{decimal_digits}
 use Rattle.cells.specs.Cells.{Rep}
 use Rattle.packing.proofs.Packed.{symbol_bytes}
 use Rattle.cells.proofs.Inversions.{rep_object}
-use Rattle.objects.specs.Writings.{WalkedText, fits, too_long, too_deep, is_flat, ObjectWalked}
+use Rattle.objects.specs.Writings.{Written, WalkedText, fits, too_long, too_deep, is_flat, ObjectWalked}
 use Rattle.objects.proofs.Walks.{flat_of}
 use Rattle.objects.proofs.Symbols.{symbol_flat}
 use Rattle.objects.proofs.Writes.{digit_flat}
-use Rattle.objects.specs.declared.Written.{Written}
-use Rattle.objects.specs.declared.Written.TheVariants as O
+use Rattle.objects.specs.declared.NotWritten.{NotWritten}
+use Rattle.std.specs.Prelude.{Ok, Err}
+use Rattle.std.specs.Result.{result_unwrap_or}
 use Rattle.program_writer.specs.Walks.{Wrote, ConstantWalked}
 
 -- ---- a scan that finds no room has a text longer than the room
@@ -121,11 +122,8 @@ never_deep x r i h e =
 
 -- ---- the walk
 module _ {C : List ℕ} {v : Val} {at : ℕ} {out : List ℕ} where
-  pub constant_past : 16384 < at → ConstantWalked C v at 16385 out out
-  constant_past h = record { means = λ n x c m r. record { place = omega arith; stands = λ a b. absurd (omega arith) } }
-
   module _ {r : Written} {out' : List ℕ} (low : at ≤ 16384) (w : ObjectWalked C v at 16384 0 r out out') where
-    pub constant_done : {e : ℕ} → r ≡ O.Done e → ConstantWalked C v at e out out'
+    constant_done : {e : ℕ} → r ≡ Ok e → ConstantWalked C v at e out out'
     constant_done {e} q = record { means = λ n x c m rep. go x (w.means n x c rep) }
       where
         go : (x : Obj) → WalkedText (write_obj x) 0 0 at 16384 r out out' → Wrote (write_obj x) at e out out'
@@ -134,7 +132,7 @@ module _ {C : List ℕ} {v : Val} {at : ℕ} {out : List ℕ} where
         go x (too_deep f s) = let z : ◌≡◌ {A = ℕ} 0 1 = cc in absurd (omega arith)
 
     -- no room, or a mark too many, which these objects don't have
-    long : {k : ℕ} (n : ℕ) (x : Obj) → n < 4294967296 → marks_of_obj x ≤ 32 → Rep C n v x → ((e : ℕ) → r ≡ O.Done e → ⊥) → k ≡ 16385 → Wrote (write_obj x) at k out out'
+    long : {k : ℕ} (n : ℕ) (x : Obj) → n < 4294967296 → marks_of_obj x ≤ 32 → Rep C n v x → ((e : ℕ) → r ≡ Ok e → ⊥) → k ≡ 16385 → Wrote (write_obj x) at k out out'
     long {k} n x c m rep not_done e = go (w.means n x c rep)
       where
         go : WalkedText (write_obj x) 0 0 at 16384 r out out' → Wrote (write_obj x) at k out out'
@@ -142,8 +140,9 @@ module _ {C : List ℕ} {v : Val} {at : ℕ} {out : List ℕ} where
         go (too_long f s) = let z = scan_long (write_obj x) 0 (16384 - at) s in record { place = omega arith; stands = λ a b. absurd (omega arith) }
         go (too_deep f s) = absurd (never_deep x (16384 - at) (rep_object rep) m s)
 
-    pub constant_short : r ≡ O.Short → ConstantWalked C v at 16385 out out'
-    constant_short q = record { means = λ n x c m rep. long n x c m rep (λ e f. let z : ◌≡◌ {A = ℕ} 0 1 = cc in omega arith) refl }
+    constant_err : {why : NotWritten} → r ≡ Err why → ConstantWalked C v at 16385 out out'
+    constant_err q = record { means = λ n x c m rep. long n x c m rep (λ e f. let z : ◌≡◌ {A = ℕ} 0 1 = cc in omega arith) refl }
 
-    pub constant_deep : r ≡ O.Deep → ConstantWalked C v at 16385 out out'
-    constant_deep q = record { means = λ n x c m rep. long n x c m rep (λ e f. let z : ◌≡◌ {A = ℕ} 0 1 = cc in omega arith) refl }
+  pub constant_or : {r : Written} {out' : List ℕ} → at ≤ 16384 → ObjectWalked C v at 16384 0 r out out' → ConstantWalked C v at (result_unwrap_or r 16385) out out'
+  constant_or {r = Ok e} low w = constant_done low w refl
+  constant_or {r = Err why} low w = constant_err low w refl

@@ -12,9 +12,8 @@ use Rattle.language.specs.declared.Val.{Val}
 use Rattle.cells.specs.Cells.{val_at}
 use Rattle.formtable.specs.Standing.{kind_at, wide_at, parts, Row, row_op, row_select, row_select_right, row_name, row_chain, row_construct, row_insert, row_apply_all, row_condition, row_while, row_constant, row_bu, Stands, a_form}
 use Rattle.formtable.proofs.Standing.{stands_up, arity_of}
-use Rattle.program_writer.specs.declared.Way.{Way}
 use Rattle.program_writer.specs.Layout.{takes_part, takes_kind, behind_part, part_text, parts_text}
-use Rattle.program_writer.specs.Walks.{Wrote, Writable, AllWritable, one_more, BehindWalked, OpeningWalked, EndingWalked, Went, FormWalked, PartWalked, PartsWalked}
+use Rattle.program_writer.specs.Walks.{Way, Wrote, Writable, AllWritable, one_more, BehindWalked, OpeningWalked, EndingWalked, Went, FormWalked, PartWalked, PartsWalked}
 use Rattle.program_writer.proofs.Wrote.{wrote_none, wrote_then, wrote_as}
 use Rattle.program_writer.proofs.FormTexts.{form_text, parts_writable}
 use Rattle.program_writer.proofs.Rows.{takes_kind_lem}
@@ -58,8 +57,8 @@ is_chain_lem h (row_bu q a w r) = absurd (omega arith)
 pub form_out : {t C : List ℕ} {i at : ℕ} {out : List ℕ} → 2048 ≤ i → FormWalked t C i at (record { next = i; place = at }) out out
 form_out h = record { ahead = omega arith; means = λ n e f gs c l w s. let g = stands_up (rest_stands s) in absurd (omega arith) }
 
-module _ {t C : List ℕ} {i at arity p q : ℕ} {row : Val} {w : Way} {out out₁ out₂ out₃ : List ℕ} where
-  pub form_done : row ≡ val_at t i → arity ≡ get_or t (i * 4 + 1) 0 → OpeningWalked C row at p out out₁ → PartsWalked t C row.tag arity (i + 1) p w out₁ out₂ → EndingWalked C row w.place q out₂ out₃ → FormWalked t C i at (record { next = w.next; place = q }) out out₃
+module _ {t C : List ℕ} {i at arity p q x z : ℕ} {row : Val} {out out₁ out₂ out₃ : List ℕ} where
+  pub form_done : row ≡ val_at t i → arity ≡ get_or t (i * 4 + 1) 0 → OpeningWalked C row at p out out₁ → PartsWalked t C row.tag arity (i + 1) p (record { next = x; place = z }) out₁ out₂ → EndingWalked C row z q out₂ out₃ → FormWalked t C i at (record { next = x; place = q }) out out₃
   form_done e a o ps d = record { ahead = let h = ps.ahead in omega arith; means = λ n e f gs c l g s. whole n e f gs c l g s }
     where
       kind : row.tag ≡ kind_at t i
@@ -68,7 +67,7 @@ module _ {t C : List ℕ} {i at arity p q : ℕ} {row : Val} {w : Way} {out out�
       value : row.word ≡ wide_at t i
       value = ap (λ (v : Val). v.word) e
 
-      whole : (n e : ℕ) (f : Form) (gs : Forms) → n < 4294967296 → e ≤ 2048 → Writable f → Stands t C n i (f & gs) e → Went t C n (write_form f) gs e at (record { next = w.next; place = q }) out out₃
+      whole : (n e : ℕ) (f : Form) (gs : Forms) → n < 4294967296 → e ≤ 2048 → Writable f → Stands t C n i (f & gs) e → Went t C n (write_form f) gs e at (record { next = x; place = q }) out out₃
       whole n e f gs c l g s =
           let r = first_row s in
           let k = ps.means n e i f (parts f) gs c l kind r (a ∙ arity_of r) (parts_writable f g) (rest_stands s) in
@@ -114,8 +113,8 @@ module _ {t C : List ℕ} {k i at m : ℕ} {r : Way} {out out' : List ℕ} (q : 
       no true h = sym h
       no false h = refl
 
-module _ {t C : List ℕ} {k i at m p : ℕ} {w : Way} {out out₁ out₂ out₃ : List ℕ} (q : m ≡ get_or t (i * 4) 0) where
-  pub part_bracketed : {b : Bool} {z : ℕ} → m ≡ 5 → b ≡ takes_kind k → not b ≡ false → Wrote (40 ∷ []) at p out out₁ → FormWalked t C i p w out₁ out₂ → Wrote (41 ∷ []) w.place z out₂ out₃ → PartWalked t C k i at (record { next = w.next; place = z }) out out₃
+module _ {t C : List ℕ} {k i at m p n₁ p₁ : ℕ} {out out₁ out₂ out₃ : List ℕ} (q : m ≡ get_or t (i * 4) 0) where
+  pub part_bracketed : {b : Bool} {z : ℕ} → m ≡ 5 → b ≡ takes_kind k → not b ≡ false → Wrote (40 ∷ []) at p out out₁ → FormWalked t C i p (record { next = n₁; place = p₁ }) out₁ out₂ → Wrote (41 ∷ []) p₁ z out₂ out₃ → PartWalked t C k i at (record { next = n₁; place = z }) out out₃
   part_bracketed {b} h v y o x d =
       record {
         ahead = x.ahead;
@@ -169,8 +168,8 @@ module _ {t C : List ℕ} {k arity from start : ℕ} {out₀ : List ℕ} where
         none : (n e : ℕ) (g : Form) (fs gs : Forms) → Left t C n g fs gs e left i start at out₀ out → Went t C n (parts_text g fs) gs e start (record { next = i; place = at }) out₀ out
         none n e g fs gs x = end n e g fs gs x.others x.front x.many x.whole x.stands x.wrote
 
-    module _ {w : Way} {r : ℕ} {out₁ out₂ : List ℕ} where
-      pub parts_turn : 0 < left → PartsLeft t C k arity from start left i at out₀ out → PartWalked t C k i at w out out₁ → length out₁ ≡ length out → BehindWalked k (left - 1) w.place r out₁ out₂ → length out₂ ≡ length out₁ → PartsLeft t C k arity from start (left - 1) w.next r out₀ out₂
+    module _ {n₁ p₁ r : ℕ} {out₁ out₂ : List ℕ} where
+      pub parts_turn : 0 < left → PartsLeft t C k arity from start left i at out₀ out → PartWalked t C k i at (record { next = n₁; place = p₁ }) out out₁ → length out₁ ≡ length out → BehindWalked k (left - 1) p₁ r out₁ out₂ → length out₂ ≡ length out₁ → PartsLeft t C k arity from start (left - 1) n₁ r out₀ out₂
       unfolding parts_text
       parts_turn h p x l₁ b l₂ =
           record {
@@ -181,12 +180,12 @@ module _ {t C : List ℕ} {k arity from start : ℕ} {out₀ : List ℕ} where
                 one n e j g fs gs y.others y.front c l kind row y.many y.whole y.good y.stands y.wrote;
           }
         where
-          one : (n e j : ℕ) (g : Form) (fs gs os : Forms) (a : List ℕ) → n < 4294967296 → e ≤ 2048 → k ≡ kind_at t j → Row t C n j g → left ≡ count os → parts_text g fs ≡ a ++ parts_text g os → AllWritable os → Stands t C n i (os +& gs) e → Wrote a start at out₀ out → Left t C n g fs gs e (left - 1) w.next start r out₀ out₂
+          one : (n e j : ℕ) (g : Form) (fs gs os : Forms) (a : List ℕ) → n < 4294967296 → e ≤ 2048 → k ≡ kind_at t j → Row t C n j g → left ≡ count os → parts_text g fs ≡ a ++ parts_text g os → AllWritable os → Stands t C n i (os +& gs) e → Wrote a start at out₀ out → Left t C n g fs gs e (left - 1) n₁ start r out₀ out₂
           one n e j g fs gs stop a c l kind row m q can s v = absurd (omega arith)
           one n e j g fs gs (f & os) a c l kind row m q (one_more cf cs) s v =
               let u = x.means n e j g f (os +& gs) c l kind row cf s in
               let z : left - 1 ≡ count os = omega arith in
-              let d : Wrote (behind_part g (count os)) w.place r out₁ out₂ = rw z at (b.means t C n j g kind row) in
+              let d : Wrote (behind_part g (count os)) p₁ r out₁ out₂ = rw z at (b.means t C n j g kind row) in
               record {
                 front = a ++ (part_text g f ++ behind_part g (count os));
                 others = os;

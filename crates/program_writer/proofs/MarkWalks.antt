@@ -1,22 +1,20 @@
 -- Laws of the most marks open at once: of objects and their places, of forms and their parts.
-use Prim.Native.Nat.{ℕ, suc, min, max, ◌+◌, ◌-◌, ◌*◌, ◌%◌, ◌≤◌, ◌<◌}
+use Prim.Native.Nat.{ℕ, suc, min, max, ◌+◌, ◌*◌, ◌%◌, ◌≤◌, ◌<◌}
 use mathlib.Core.Path.{◌≡◌, refl, ap, sym, ◌∙◌}
 use mathlib.Core.Bool.{Bool, true, false, cond, not}
 use mathlib.Core.List.{List}
 use native.Mathlib.Omega.{arith}
-use borrow.Author.Tests.{eqb-true, eqb-false}
-use lib.Dec.{eqb}
 use lib.ListN.{get_or}
-use Rattle.language.specs.Objects.{Obj, seq, Objs, nil, ◌::◌, length_of}
+use Rattle.language.specs.Objects.{seq, Objs, nil, ◌::◌, length_of}
 use Rattle.language.specs.Forms.{Form, Forms, stop, ◌&◌, ◌+&◌, count, is_chain}
 use Rattle.language.specs.Writing.{bracket_marks, marks_of, marks_of_obj, marks_of_objs}
 use Rattle.language.specs.declared.Val.{Val}
-use Rattle.cells.specs.Cells.{Rep, rep_pos, rep_neg, rep_symbol, rep_nil, rep_more, val_at}
-use Rattle.cells.specs.Parts.{Sized, Headed, Tailed}
+use Rattle.cells.specs.Cells.{Rep, val_at}
+use Rattle.cells.specs.Parts.{Headed, Tailed}
 use Rattle.formtable.specs.Standing.{kind_at, wide_at, parts, Row, row_op, row_select, row_select_right, row_name, row_chain, row_construct, row_insert, row_apply_all, row_condition, row_while, row_constant, row_bu, Stands}
 use Rattle.program_writer.specs.declared.Depth.{Depth}
 use Rattle.program_writer.specs.Layout.{takes_part, takes_kind, part_marks, parts_marks, own_marks}
-use Rattle.program_writer.specs.Depths.{ObjectDepth, PlacesDepth, OwnDepth, Deep, FormDepth, PartDepth, PartsDepth}
+use Rattle.program_writer.specs.Depths.{ObjectDepth, OwnDepth, Deep, FormDepth, PartDepth, PartsDepth}
 use Rattle.program_writer.proofs.FormTexts.{opens, form_marks}
 use Rattle.program_writer.proofs.Rows.{own_constant, own_bu, takes_kind_lem}
 use Rattle.formtable.proofs.Standing.{stands_up, arity_of}
@@ -45,75 +43,29 @@ turn most here more m l rest e f =
     ∙ sym (both_up_to most (max m rest) l)
 
 -- ---- objects
-no_marks : {C : List ℕ} {n : ℕ} {v : Val} {x : Obj} → (v.tag ≡ 3 → ⊥) → Rep C n v x → marks_of_obj x ≡ 0
-no_marks h (rep_pos t e b) = refl
-no_marks h (rep_neg t e b) = refl
-no_marks h (rep_symbol t i e) = refl
-no_marks h (rep_nil t e) = absurd (h t)
-no_marks h (rep_more t e l a b) = absurd (h t)
-
-module _ {C : List ℕ} {v : Val} {limit : ℕ} where
-  pub object_atom : {b : Bool} → b ≡ eqb v.tag 3 → not b ≡ true → ObjectDepth C v limit 0
-  object_atom {b} e h =
-      record { most = omega arith; means = λ n x c r. let z = no_marks (eqb-false v.tag 3 (sym e ∙ no b h)) r in omega arith }
-    where
-      no : (b : Bool) → not b ≡ true → b ≡ false
-      no true h = sym h
-      no false h = refl
-
-  pub object_none : limit ≡ 0 → ObjectDepth C v limit 0
-  object_none h = record { most = omega arith; means = λ n x c r. omega arith }
-
-  pub object_more : {b : Bool} {r : ℕ} → b ≡ eqb v.tag 3 → not b ≡ false → (limit ≡ 0 → ⊥) → PlacesDepth C v (limit - 1) r → ObjectDepth C v limit (r + 1)
-  object_more {b} {r} e h z p = record { most = let m = p.most in omega arith; means = λ n x c s. go n x c s }
-    where
-      yes' : (b : Bool) → not b ≡ false → b ≡ true
-      yes' true h = refl
-      yes' false h = sym h
-
-      tag : v.tag ≡ 3
-      tag = eqb-true v.tag 3 (sym e ∙ yes' b h)
-
-      go : (n : ℕ) (x : Obj) → n < 4294967296 → Rep C n v x → r + 1 ≡ min (marks_of_obj x) limit
-      go n x c (rep_pos t e b) = let z = tag in absurd (omega arith)
-      go n x c (rep_neg t e b) = let z = tag in absurd (omega arith)
-      go n x c (rep_symbol t i e) = let z = tag in absurd (omega arith)
-      go n x c (rep_nil t e) = let q = p.means n nil c (rep_nil t e) in omega arith
-      go n x c (rep_more {x = y} {xs = xs} t e l a b) = let q = p.means n (y :: xs) c (rep_more t e l a b) in omega arith
-
 -- the most marks of the places passed, and of those to come
-pub record PlacesNow (C : List ℕ) (s : Val) (limit left most n all : ℕ) : Type 0 where
+pub record PlacesNow (C : List ℕ) (s : Val) (limit total k most n all : ℕ) : Type 0 where
   pub others : Objs
-  pub many : left ≡ length_of others
+  pub many : k + length_of others ≡ total
   pub stands : Rep C n s (seq others)
   pub marks : min (max most (marks_of_objs others)) limit ≡ min all limit
 
-pub record PlacesLeft (C : List ℕ) (v : Val) (limit left : ℕ) (s : Val) (most : ℕ) : Type 0 where
+pub record PlacesLeft (C : List ℕ) (v : Val) (limit total k : ℕ) (s : Val) (most : ℕ) : Type 0 where
   pub low : most ≤ limit
-  pub means : (n : ℕ) (xs : Objs) → n < 4294967296 → Rep C n v (seq xs) → PlacesNow C s limit left most n (marks_of_objs xs)
+  pub means : (n : ℕ) (xs : Objs) → n < 4294967296 → Rep C n v (seq xs) → PlacesNow C s limit total k most n (marks_of_objs xs)
 
 module _ {C : List ℕ} {v : Val} {limit : ℕ} where
-  pub places_start : {left : ℕ} → Sized v left → PlacesLeft C v limit left v 0
-  places_start z = record { low = omega arith; means = λ n xs c r. record { others = xs; many = z.means C n xs c r; stands = r; marks = omega arith } }
-
-  module _ {left most : ℕ} {s : Val} where
-    pub places_end : left ≤ 0 → PlacesLeft C v limit left s most → PlacesDepth C v limit most
-    places_end h p = record { most = p.low; means = λ n xs c r. let y = p.means n xs c r in none (marks_of_objs xs) y.others y.many y.marks p.low }
-      where
-        none : (a : ℕ) (os : Objs) → left ≡ length_of os → min (max most (marks_of_objs os)) limit ≡ min a limit → most ≤ limit → most ≡ min a limit
-        none a nil m e l = omega arith
-        none a (x :: os) m e l = absurd (omega arith)
-
+  module _ {total k most : ℕ} {s : Val} where
     module _ {h t : Val} {here more : ℕ} where
-      pub places_turn : 0 < left → PlacesLeft C v limit left s most → Headed C s h → ObjectDepth C h limit here → more ≡ max most here → Tailed C s t → PlacesLeft C v limit (left - 1) t more
+      pub places_turn : k < total → PlacesLeft C v limit total k s most → Headed C s h → ObjectDepth C h limit here → more ≡ max most here → Tailed C s t → PlacesLeft C v limit total (k + 1) t more
       places_turn u p hd o m tl =
           record { low = let a = p.low in let b = o.most in omega arith; means = λ n xs c r. let y = p.means n xs c r in one n (marks_of_objs xs) y.others c y.many y.stands y.marks }
         where
-          one : (n a : ℕ) (os : Objs) → n < 4294967296 → left ≡ length_of os → Rep C n s (seq os) → min (max most (marks_of_objs os)) limit ≡ min a limit → PlacesNow C t limit (left - 1) more n a
+          one : (n a : ℕ) (os : Objs) → n < 4294967296 → k + length_of os ≡ total → Rep C n s (seq os) → min (max most (marks_of_objs os)) limit ≡ min a limit → PlacesNow C t limit total (k + 1) more n a
           one n a nil c q r e = absurd (omega arith)
           one n a (x :: os) c q r e =
-              let k = o.means n x c (hd.means n x os c r) in
-              record { others = os; many = omega arith; stands = tl.means n x os c r; marks = turn most here more (marks_of_obj x) limit (marks_of_objs os) m k ∙ e }
+              let same = o.means n x c (hd.means n x os c r) in
+              record { others = os; many = omega arith; stands = tl.means n x os c r; marks = turn most here more (marks_of_obj x) limit (marks_of_objs os) m same ∙ e }
 
 -- ---- the object of a record
 no_own : {t C : List ℕ} {n i k : ℕ} {f : Form} → k < 12 → k ≡ kind_at t i → Row t C n i f → 0 ≡ min (own_marks f) 33
@@ -265,39 +217,35 @@ module _ {t C : List ℕ} {k i m : ℕ} {d : Depth} (x : FormDepth t C i d) (q :
 
 -- ---- parts one after the other
 -- the most marks of the parts passed, and of those to come
-pub record DepthNow (t C : List ℕ) (n : ℕ) (g : Form) (gs : Forms) (e left i most all : ℕ) : Type 0 where
+pub record DepthNow (t C : List ℕ) (n : ℕ) (g : Form) (gs : Forms) (e total m i most all : ℕ) : Type 0 where
   pub others : Forms
-  pub many : left ≡ count others
+  pub many : m + count others ≡ total
   pub low : most ≤ 33
   pub stands : Stands t C n i (others +& gs) e
   pub marks : min (max most (parts_marks g others)) 33 ≡ min all 33
 
-pub record DepthLeft (t C : List ℕ) (k arity from left i most : ℕ) : Type 0 where
+pub record DepthLeft (t C : List ℕ) (k arity from m i most : ℕ) : Type 0 where
   pub ahead : from ≤ i
-  pub means : (n e j : ℕ) (g : Form) (fs gs : Forms) → n < 4294967296 → e ≤ 2048 → k ≡ kind_at t j → Row t C n j g → arity ≡ count fs → Stands t C n from (fs +& gs) e → DepthNow t C n g gs e left i most (parts_marks g fs)
+  pub means : (n e j : ℕ) (g : Form) (fs gs : Forms) → n < 4294967296 → e ≤ 2048 → k ≡ kind_at t j → Row t C n j g → arity ≡ count fs → Stands t C n from (fs +& gs) e → DepthNow t C n g gs e arity m i most (parts_marks g fs)
 
 module _ {t C : List ℕ} {k arity from : ℕ} where
-  pub depth_start : DepthLeft t C k arity from arity from 0
-  depth_start =
-      record { ahead = omega arith; means = λ n e j g fs gs c l kind row a s. record { others = fs; many = a; low = omega arith; stands = s; marks = omega arith } }
-
-  module _ {left i most : ℕ} where
-    pub depth_end : left ≤ 0 → DepthLeft t C k arity from left i most → PartsDepth t C k arity from (record { next = i; marks = most })
+  module _ {m i most : ℕ} where
+    pub depth_end : arity ≤ m → DepthLeft t C k arity from m i most → PartsDepth t C k arity from (record { next = i; marks = most })
     unfolding parts_marks
     depth_end h p =
         record { ahead = p.ahead; means = λ n e j g fs gs c l kind row a s. none n e g fs gs (p.means n e j g fs gs c l kind row a s) }
       where
-        end : (n e all : ℕ) (g : Form) (gs os : Forms) → left ≡ count os → most ≤ 33 → Stands t C n i (os +& gs) e → min (max most (parts_marks g os)) 33 ≡ min all 33 → Deep t C n all gs e (record { next = i; marks = most })
-        end n e all g gs stop m l s q = record { rest = s; marks = omega arith }
-        end n e all g gs (f & os) m l s q = absurd (omega arith)
+        end : (n e all : ℕ) (g : Form) (gs os : Forms) → m + count os ≡ arity → most ≤ 33 → Stands t C n i (os +& gs) e → min (max most (parts_marks g os)) 33 ≡ min all 33 → Deep t C n all gs e (record { next = i; marks = most })
+        end n e all g gs stop z l s q = record { rest = s; marks = omega arith }
+        end n e all g gs (f & os) z l s q = absurd (omega arith)
 
-        none : (n e : ℕ) (g : Form) (fs gs : Forms) → DepthNow t C n g gs e left i most (parts_marks g fs) → Deep t C n (parts_marks g fs) gs e (record { next = i; marks = most })
+        none : (n e : ℕ) (g : Form) (fs gs : Forms) → DepthNow t C n g gs e arity m i most (parts_marks g fs) → Deep t C n (parts_marks g fs) gs e (record { next = i; marks = most })
         none n e g fs gs x = end n e (parts_marks g fs) g gs x.others x.many x.low x.stands x.marks
 
     module _ {d : Depth} {more : ℕ} where
-      pub depth_turn : 0 < left → DepthLeft t C k arity from left i most → PartDepth t C k i d → more ≡ max most d.marks → DepthLeft t C k arity from (left - 1) d.next more
+      pub depth_turn : m < arity → DepthLeft t C k arity from m i most → PartDepth t C k i d → more ≡ max most d.marks → DepthLeft t C k arity from (m + 1) d.next more
       unfolding parts_marks
-      depth_turn h p x m =
+      depth_turn h p x z =
           record {
             ahead = let u = p.ahead in let v = x.ahead in omega arith;
             means = λ n e j g fs gs c l kind row a s.
@@ -305,9 +253,9 @@ module _ {t C : List ℕ} {k arity from : ℕ} where
                 one n e j (parts_marks g fs) g gs y.others c l kind row y.many y.low y.stands y.marks;
           }
         where
-          one : (n e j all : ℕ) (g : Form) (gs os : Forms) → n < 4294967296 → e ≤ 2048 → k ≡ kind_at t j → Row t C n j g → left ≡ count os → most ≤ 33 → Stands t C n i (os +& gs) e → min (max most (parts_marks g os)) 33 ≡ min all 33 → DepthNow t C n g gs e (left - 1) d.next more all
+          one : (n e j all : ℕ) (g : Form) (gs os : Forms) → n < 4294967296 → e ≤ 2048 → k ≡ kind_at t j → Row t C n j g → m + count os ≡ arity → most ≤ 33 → Stands t C n i (os +& gs) e → min (max most (parts_marks g os)) 33 ≡ min all 33 → DepthNow t C n g gs e arity (m + 1) d.next more all
           one n e j all g gs stop c l kind row q low s v = absurd (omega arith)
           one n e j all g gs (f & os) c l kind row q low s v =
               let u = x.means n e j g f (os +& gs) c l kind row s in
               let w = u.marks in
-              record { others = os; many = omega arith; low = omega arith; stands = u.rest; marks = turn most d.marks more (part_marks g f) 33 (parts_marks g os) m w ∙ v }
+              record { others = os; many = omega arith; low = omega arith; stands = u.rest; marks = turn most d.marks more (part_marks g f) 33 (parts_marks g os) z w ∙ v }

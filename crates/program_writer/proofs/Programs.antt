@@ -11,12 +11,11 @@ use Rattle.packing.specs.Packing.{packed}
 use Rattle.language.specs.Writing.{write_form, write_program, marks_of, marks_of_program}
 use Rattle.tables.specs.Tables.{put}
 use Rattle.formtable.specs.Standing.{Stands, bodies}
-use Rattle.program_writer.specs.declared.Way.{Way}
 use Rattle.program_writer.specs.declared.Depth.{Depth}
-use Rattle.program_writer.specs.declared.Written.TheVariants as W
+use Rattle.std.specs.Prelude.{Some}
 use Rattle.program_writer.specs.Walks.{Wrote, NameWalked, Writable, FormWalked}
 use Rattle.program_writer.specs.Depths.{FormDepth}
-use Rattle.program_writer.specs.Programs.{name_at, Named, a_name, Holds, DefinitionWalked, ProgramWalked, ProgramDepth, TextMeasured, ProgramEnd, program_written, no_room, ProgramWritten}
+use Rattle.program_writer.specs.Programs.{name_at, Named, a_name, Holds, DefinitionWalked, ProgramWalked, TextMeasured, ProgramEnd, program_written, ProgramWritten}
 use Rattle.program_writer.proofs.Wrote.{wrote_none, wrote_then, wrote_as}
 use Rattle.program_writer.proofs.MarkWalks.{turn}
 
@@ -27,8 +26,8 @@ definition_text d = d.called ++ (code "=" ∷ (write_form d.body ++ code ";" ∷
 four : (a b c d : List ℕ) → ((a ++ b) ++ c) ++ d ≡ a ++ (b ++ (c ++ d))
 four a b c d = simp append_assoc
 
-module _ {t C D : List ℕ} {k i at v p q z : ℕ} {w : Way} {out out₁ out₂ out₃ out₄ : List ℕ} where
-  pub definition_done : v ≡ name_at D k → NameWalked v at p out out₁ → Wrote (61 ∷ []) p q out₁ out₂ → FormWalked t C i q w out₂ out₃ → Wrote (59 ∷ []) w.place z out₃ out₄ → DefinitionWalked t C D k i at (record { next = w.next; place = z }) out out₄
+module _ {t C D : List ℕ} {k i at v p q z n₁ p₁ : ℕ} {out out₁ out₂ out₃ out₄ : List ℕ} where
+  pub definition_done : v ≡ name_at D k → NameWalked v at p out out₁ → Wrote (61 ∷ []) p q out₁ out₂ → FormWalked t C i q (record { next = n₁; place = p₁ }) out₂ out₃ → Wrote (59 ∷ []) p₁ z out₃ out₄ → DefinitionWalked t C D k i at (record { next = n₁; place = z }) out out₄
   definition_done e n a f b =
       record {
         means = λ m l d gs c h name is can s.
@@ -69,13 +68,13 @@ rest_named : {D : List ℕ} {k : ℕ} {d : Def} {ds : Prog} → Named D k (d ∷
 rest_named (a_name e s) = s
 
 module _ {t C D : List ℕ} {defs : ℕ} {out₀ : List ℕ} where
-  pub definitions_start : DefinitionsLeft t C D defs 0 0 0 out₀ out₀
-  definitions_start =
+  pub definitions_start : {at : ℕ} → at ≡ 0 → DefinitionsLeft t C D defs 0 0 at out₀ out₀
+  definitions_start z =
       record {
         len = refl;
         means = λ n e P h m.
             let l = h.many in
-            record { front = []; others = P; whole = refl; many = omega arith; stands = h.stands; names = h.names; good = h.good; few = m; wrote = wrote_none };
+            record { front = []; others = P; whole = refl; many = omega arith; stands = h.stands; names = h.names; good = h.good; few = m; wrote = rw z wrote_none };
       }
 
   module _ {k i at : ℕ} {out : List ℕ} where
@@ -87,15 +86,15 @@ module _ {t C D : List ℕ} {defs : ℕ} {out₀ : List ℕ} where
         none P [] a m q w = wrote_as (sym (q ∙ append-nil a)) w
         none P (d ∷ os) a m q w = absurd (omega arith)
 
-    module _ {w : Way} {out₁ : List ℕ} where
-      pub definitions_turn : k < defs → DefinitionsLeft t C D defs k i at out₀ out → DefinitionWalked t C D k i at w out out₁ → length out₁ ≡ length out → DefinitionsLeft t C D defs (k + 1) w.next w.place out₀ out₁
+    module _ {n₁ p₁ : ℕ} {out₁ : List ℕ} where
+      pub definitions_turn : k < defs → DefinitionsLeft t C D defs k i at out₀ out → DefinitionWalked t C D k i at (record { next = n₁; place = p₁ }) out out₁ → length out₁ ≡ length out → DefinitionsLeft t C D defs (k + 1) n₁ p₁ out₀ out₁
       definitions_turn h p x l =
           record {
             len = l ∙ p.len;
             means = λ n e P a m. let y = p.means n e P a m in one n e P y.others y.front a.cells a.forms y.whole y.many y.stands y.names y.good y.few y.wrote;
           }
         where
-          one : (n e : ℕ) (P os : Prog) (a : List ℕ) → n < 4294967296 → e ≤ 2048 → write_program P ≡ a ++ write_program os → length os + k ≡ defs → Stands t C n i (bodies os) e → Named D k os → AreDefinitions os → marks_of_program os ≤ 32 → Wrote a 0 at out₀ out → DefinitionsNow t C D defs n e P (k + 1) w.next w.place out₀ out₁
+          one : (n e : ℕ) (P os : Prog) (a : List ℕ) → n < 4294967296 → e ≤ 2048 → write_program P ≡ a ++ write_program os → length os + k ≡ defs → Stands t C n i (bodies os) e → Named D k os → AreDefinitions os → marks_of_program os ≤ 32 → Wrote a 0 at out₀ out → DefinitionsNow t C D defs n e P (k + 1) n₁ p₁ out₀ out₁
           one n e P [] a c l q m s names g f v = absurd (omega arith)
           one n e P (d ∷ os) a c l q m s names g f v =
               let can : Writable d.body = record { good = g.1; few = omega arith } in
@@ -124,17 +123,7 @@ pub record MostLeft (t C : List ℕ) (defs k i most : ℕ) : Type 0 where
   pub means : (n e : ℕ) (P : Prog) → n < 4294967296 → e ≤ 2048 → length P ≡ defs → Stands t C n 0 (bodies P) e → MostNow t C defs n e P k i most
 
 module _ {t C : List ℕ} {defs : ℕ} where
-  pub most_start : MostLeft t C defs 0 0 0
-  most_start = record { means = λ n e P c l m s. record { others = P; many = omega arith; low = omega arith; stands = s; marks = omega arith } }
-
   module _ {k i most : ℕ} where
-    pub most_end : defs ≤ k → MostLeft t C defs k i most → ProgramDepth t C defs most
-    most_end h p = record { means = λ n e P c l m s. let x = p.means n e P c l m s in none P x.others x.many x.low x.marks }
-      where
-        none : (P os : Prog) → length os + k ≡ defs → most ≤ 33 → min (max most (marks_of_program os)) 33 ≡ min (marks_of_program P) 33 → most ≡ min (marks_of_program P) 33
-        none P [] m l q = omega arith
-        none P (d ∷ os) m l q = absurd (omega arith)
-
     pub most_turn : {d : Depth} {more : ℕ} → k < defs → MostLeft t C defs k i most → FormDepth t C i d → more ≡ max most d.marks → MostLeft t C defs (k + 1) d.next more
     most_turn {d} {more} h p x m =
         record { means = λ n e P c l q s. let y = p.means n e P c l q s in one n e P y.others c l y.many y.low y.stands y.marks }
@@ -148,39 +137,18 @@ module _ {t C : List ℕ} {defs : ℕ} where
 
 -- ---- the calls
 module _ {t C D : List ℕ} {defs l : ℕ} where
-  module _ {none none' : List ℕ} (w : ProgramWalked t C D defs l none none') where
-    pub text_long : 16384 < l → TextMeasured t C D defs 16385
-    text_long h = record { means = λ n e P a f. let x = (w.means n e P a f).place in omega arith }
-
-    pub text_short : l ≤ 16384 → TextMeasured t C D defs l
-    text_short h = record { means = λ n e P a f. let x = (w.means n e P a f).place in omega arith }
-
   module _ (w : TextMeasured t C D defs l) where
     module _ {out : List ℕ} where
-      pub write_long : 16384 < l → ProgramWritten t C D defs W.Short out out
-      write_long h =
-          record {
-            fits = λ k q. let z : ◌≡◌ {A = ℕ} 0 1 = cc in absurd (omega arith);
-            means = λ n e P a f. let x = w.means n e P a f in no_room (omega arith) refl refl;
-          }
-
-      pub write_short : l ≤ 16384 → length out < l → ProgramWritten t C D defs W.Short out out
-      write_short b h =
-          record {
-            fits = λ k q. let z : ◌≡◌ {A = ℕ} 0 1 = cc in absurd (omega arith);
-            means = λ n e P a f. let x = w.means n e P a f in no_room (omega arith) refl refl;
-          }
-
-      pub write_done : {r : ℕ} {out' : List ℕ} → l ≤ 16384 → l ≤ length out → ProgramWalked t C D defs r out out' → ProgramWritten t C D defs (W.Done l) out out'
+      pub write_some : {r : ℕ} {out' : List ℕ} → l ≤ 16384 → l ≤ length out → ProgramWalked t C D defs r out out' → ProgramWritten t C D defs (Some l) out out'
       unfolding put
-      write_done {r} {out'} b h v =
+      write_some {r} {out'} b h v =
           record {
             fits = λ k q. let z : k ≡ l = cc in omega arith;
             means = λ n e P a f. whole (write_program P) (w.means n e P a f) (v.means n e P a f);
           }
         where
-          whole : (text : List ℕ) → l ≡ min (length text) 16385 → Wrote text 0 r out out' → ProgramEnd text (W.Done l) out out'
+          whole : (text : List ℕ) → l ≡ min (length text) 16385 → Wrote text 0 r out out' → ProgramEnd text (Some l) out out'
           whole text x y =
               let e : l ≡ length text = omega arith in
               let z : 0 + length text ≡ length text = omega arith in
-              program_written (omega arith) (ap (λ (k : ℕ). W.Done k) e) (y.stands (omega arith) (omega arith) ∙ ap (λ (k : ℕ). text ++ drop k out) z)
+              program_written (omega arith) (ap (λ (k : ℕ). Some k) e) (y.stands (omega arith) (omega arith) ∙ ap (λ (k : ℕ). text ++ drop k out) z)

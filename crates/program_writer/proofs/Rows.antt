@@ -1,11 +1,9 @@
 -- What a record's kind and word say of the form that it is the record of: its marks, its words and names, its object.
 use Prim.Native.Nat.{ℕ, zero, suc, ◌+◌, ◌%◌, ◌≤◌, ◌<◌}
 use mathlib.Core.Path.{◌≡◌, refl, ap, sym, subst, ◌∙◌}
-use mathlib.Core.Bool.{true, cond}
-use mathlib.Core.List.{List, [], ◌∷◌}
+use mathlib.Core.List.{List, [], ◌∷◌, ◌++◌}
 use native.Mathlib.Omega.{arith}
 use borrow.Author.Tests.{ne_eqb, le-leb, lt-leb}
-use lib.Dec.{eqb}
 use lib.IntN.{pos}
 use lib.ListN.{take}
 use lib.Seq.{take_at}
@@ -37,126 +35,88 @@ module _ {C : List ℕ} {n : ℕ} {x : Obj} {v : Val} (row : Val) where
   own_bu a b r = let l = tag_low r in subst (λ (u : Val). Rep C n u x) (val_same v (record { tag = row.tag % 4; word = row.word }) (omega arith) (sym b)) r
 
 -- ---- what stands behind a part
--- a mark, 0 for none; the dash is the arrow's
-unfoldable mark_text : ℕ → List ℕ
-mark_text b = cond (eqb b 0) [] (cond (eqb b 45) (45 ∷ 62 ∷ []) (b ∷ []))
+module _ {k : ℕ} {b : List ℕ} where
+  chain_text : (left : ℕ) → MarkBehind k left b → k ≡ 5 → b ≡ behind_chain left
+  unfolding behind_chain
+  chain_text zero m h = m.chain_end h refl
+  chain_text (suc l) m h = m.chain h (omega arith)
 
-text_none : {b : ℕ} → b ≡ 0 → mark_text b ≡ []
-unfolding mark_text
-text_none e = rw e
+  construct_text : (left : ℕ) → MarkBehind k left b → k ≡ 6 → b ≡ behind_construct left
+  unfolding behind_construct
+  construct_text zero m h = m.construct_end h refl
+  construct_text (suc l) m h = m.construct h (omega arith)
 
-text_arrow : {b : ℕ} → b ≡ 45 → mark_text b ≡ 45 ∷ 62 ∷ []
-unfolding mark_text
-text_arrow e = rw e
+  condition_text : (left : ℕ) → MarkBehind k left b → k ≡ 9 → b ≡ behind_condition left
+  unfolding behind_condition
+  condition_text zero m h = m.condition_end h refl
+  condition_text (suc zero) m h = m.condition_then h refl
+  condition_text (suc (suc l)) m h = m.condition h (omega arith)
 
-text_one : {b : ℕ} → (b ≡ 0 → ⊥) → (b ≡ 45 → ⊥) → mark_text b ≡ b ∷ []
-unfolding mark_text
-text_one {b} h g = rw (ne_eqb b 0 h, ne_eqb b 45 g)
+  while_text : (left : ℕ) → MarkBehind k left b → k ≡ 10 → b ≡ behind_while left
+  unfolding behind_while
+  while_text zero m h = m.while_end h refl
+  while_text (suc l) m h = m.while h (omega arith)
 
-module _ {k b : ℕ} where
-  chain_text : (left : ℕ) → MarkBehind k left b → k ≡ 5 → mark_text b ≡ behind_chain left
-  unfolding mark_text behind_chain
-  chain_text zero m h = ap mark_text (m.chain_end h refl)
-  chain_text (suc l) m h = ap mark_text (m.chain h (omega arith))
-
-  construct_text : (left : ℕ) → MarkBehind k left b → k ≡ 6 → mark_text b ≡ behind_construct left
-  unfolding mark_text behind_construct
-  construct_text zero m h = ap mark_text (m.construct_end h refl)
-  construct_text (suc l) m h = ap mark_text (m.construct h (omega arith))
-
-  condition_text : (left : ℕ) → MarkBehind k left b → k ≡ 9 → mark_text b ≡ behind_condition left
-  unfolding mark_text behind_condition
-  condition_text zero m h = ap mark_text (m.condition_end h refl)
-  condition_text (suc zero) m h = ap mark_text (m.condition_then h refl)
-  condition_text (suc (suc l)) m h = ap mark_text (m.condition h (omega arith))
-
-  while_text : (left : ℕ) → MarkBehind k left b → k ≡ 10 → mark_text b ≡ behind_while left
-  unfolding mark_text behind_while
-  while_text zero m h = ap mark_text (m.while_end h refl)
-  while_text (suc l) m h = ap mark_text (m.while h (omega arith))
-
-  behind_text : {t C : List ℕ} {n j : ℕ} {g : Form} (left : ℕ) → k ≡ kind_at t j → MarkBehind k left b → Row t C n j g → mark_text b ≡ behind_part g left
+  behind_text : {t C : List ℕ} {n j : ℕ} {g : Form} (left : ℕ) → k ≡ kind_at t j → MarkBehind k left b → Row t C n j g → b ≡ behind_part g left
   unfolding behind_part
-  behind_text left e m (row_op h a w) = text_none (m.other (omega arith))
-  behind_text left e m (row_select h a w) = text_none (m.other (omega arith))
-  behind_text left e m (row_select_right h a w) = text_none (m.other (omega arith))
-  behind_text left e m (row_name h a w) = text_none (m.other (omega arith))
+  behind_text left e m (row_op h a w) = m.other (omega arith)
+  behind_text left e m (row_select h a w) = m.other (omega arith)
+  behind_text left e m (row_select_right h a w) = m.other (omega arith)
+  behind_text left e m (row_name h a w) = m.other (omega arith)
   behind_text left e m (row_chain h a w) = chain_text left m (e ∙ h)
   behind_text left e m (row_construct h a w) = construct_text left m (e ∙ h)
-  behind_text left e m (row_insert h a w) = text_none (m.insert (omega arith))
-  behind_text left e m (row_apply_all h a w) = text_none (m.apply_all (omega arith))
+  behind_text left e m (row_insert h a w) = m.insert (omega arith)
+  behind_text left e m (row_apply_all h a w) = m.apply_all (omega arith)
   behind_text left e m (row_condition h a w) = condition_text left m (e ∙ h)
   behind_text left e m (row_while h a w) = while_text left m (e ∙ h)
-  behind_text left e m (row_constant h a w r) = let l = tag_low r in text_none (m.constant (omega arith) (omega arith))
-  behind_text left e m (row_bu h a w r) = ap mark_text (m.bu (omega arith)) ∙ text_one {b = 44} (λ z. absurd (omega arith)) (λ z. absurd (omega arith))
+  behind_text left e m (row_constant h a w r) = let l = tag_low r in m.constant (omega arith) (omega arith)
+  behind_text left e m (row_bu h a w r) = m.bu (omega arith)
 
-module _ {k left b at : ℕ} {out : List ℕ} (m : MarkBehind k left b) where
-  pub behind_none : b ≡ 0 → BehindWalked k left at at out out
-  behind_none h = record { means = λ t C n j g e r. wrote_as (sym (text_none h) ∙ behind_text left e m r) wrote_none }
-
-  pub behind_arrow : {r r₂ : ℕ} {out₁ out₂ : List ℕ} → b ≡ 45 → Wrote (b ∷ []) at r out out₁ → Wrote (62 ∷ []) r r₂ out₁ out₂ → BehindWalked k left at r₂ out out₂
-  behind_arrow h v w =
-      record { means = λ t C n j g e r. wrote_as (ap (λ (x : ℕ). x ∷ 62 ∷ []) h ∙ sym (text_arrow h) ∙ behind_text left e m r) (wrote_then v w) }
-
-  pub behind_mark : {r : ℕ} {out₁ : List ℕ} → (b ≡ 0 → ⊥) → (b ≡ 45 → ⊥) → Wrote (b ∷ []) at r out out₁ → BehindWalked k left at r out out₁
-  behind_mark h g w = record { means = λ t C n j f e r. wrote_as (sym (text_one h g) ∙ behind_text left e m r) w }
+pub behind_walk : {k left at r : ℕ} {b out out' : List ℕ} → MarkBehind k left b → Wrote b at r out out' → BehindWalked k left at r out out'
+behind_walk {left = left} m w = record { means = λ t C n j g e r. wrote_as (behind_text left e m r) w }
 
 -- ---- what opens a form
-module _ {k b : ℕ} (low : 5 ≤ k) (m : OpeningMark k b) where
-  none_text : {t C : List ℕ} {n i : ℕ} {f : Form} → k ≡ kind_at t i → b ≡ 0 → Row t C n i f → opening f ≡ []
+module _ {k : ℕ} {b : List ℕ} (low : 5 ≤ k) (m : OpeningMark k b) where
+  mark_text : {t C : List ℕ} {n i : ℕ} {f : Form} → (10 < k → k < 16 → ⊥) → k ≡ kind_at t i → Row t C n i f → b ≡ opening f
   unfolding opening
-  none_text e h (row_op q a w) = absurd (omega arith)
-  none_text e h (row_select q a w) = absurd (omega arith)
-  none_text e h (row_select_right q a w) = absurd (omega arith)
-  none_text e h (row_name q a w) = absurd (omega arith)
-  none_text e h (row_chain q a w) = refl
-  none_text e h (row_construct q a w) = let z = m.construct (omega arith) in absurd (omega arith)
-  none_text e h (row_insert q a w) = let z = m.insert (omega arith) in absurd (omega arith)
-  none_text e h (row_apply_all q a w) = let z = m.apply_all (omega arith) in absurd (omega arith)
-  none_text e h (row_condition q a w) = let z = m.condition (omega arith) in absurd (omega arith)
-  none_text e h (row_while q a w) = let z = m.while (omega arith) in absurd (omega arith)
-  none_text e h (row_constant q a w r) = let l = tag_low r in let z = m.constant (omega arith) (omega arith) in absurd (omega arith)
-  none_text e h (row_bu q a w r) = let z = m.bu (omega arith) in absurd (omega arith)
+  mark_text o e (row_op q a w) = absurd (omega arith)
+  mark_text o e (row_select q a w) = absurd (omega arith)
+  mark_text o e (row_select_right q a w) = absurd (omega arith)
+  mark_text o e (row_name q a w) = absurd (omega arith)
+  mark_text o e (row_chain q a w) = m.chain (omega arith)
+  mark_text o e (row_construct q a w) = m.construct (omega arith)
+  mark_text o e (row_insert q a w) = m.insert (omega arith)
+  mark_text o e (row_apply_all q a w) = m.apply_all (omega arith)
+  mark_text o e (row_condition q a w) = m.condition (omega arith)
+  mark_text o e (row_while q a w) = m.while (omega arith)
+  mark_text o e (row_constant q a w r) = let l = tag_low r in absurd (o (omega arith) (omega arith))
+  mark_text o e (row_bu q a w r) = m.bu (omega arith)
 
-  mark_text_lem : {t C : List ℕ} {n i : ℕ} {f : Form} → k ≡ kind_at t i → (b ≡ 0 → ⊥) → (b ≡ 37 → ⊥) → Row t C n i f → b ∷ [] ≡ opening f
-  unfolding opening
-  mark_text_lem e h g (row_op q a w) = absurd (omega arith)
-  mark_text_lem e h g (row_select q a w) = absurd (omega arith)
-  mark_text_lem e h g (row_select_right q a w) = absurd (omega arith)
-  mark_text_lem e h g (row_name q a w) = absurd (omega arith)
-  mark_text_lem e h g (row_chain q a w) = absurd (h (m.chain (omega arith)))
-  mark_text_lem e h g (row_construct q a w) = ap (λ (x : ℕ). x ∷ []) (m.construct (omega arith))
-  mark_text_lem e h g (row_insert q a w) = ap (λ (x : ℕ). x ∷ []) (m.insert (omega arith))
-  mark_text_lem e h g (row_apply_all q a w) = ap (λ (x : ℕ). x ∷ []) (m.apply_all (omega arith))
-  mark_text_lem e h g (row_condition q a w) = ap (λ (x : ℕ). x ∷ []) (m.condition (omega arith))
-  mark_text_lem e h g (row_while q a w) = ap (λ (x : ℕ). x ∷ []) (m.while (omega arith))
-  mark_text_lem e h g (row_constant q a w r) = let l = tag_low r in absurd (g (m.constant (omega arith) (omega arith)))
-  mark_text_lem e h g (row_bu q a w r) = ap (λ (x : ℕ). x ∷ []) (m.bu (omega arith))
+module _ {C : List ℕ} {row : Val} {at : ℕ} {b out : List ℕ} (low : 5 ≤ row.tag) (m : OpeningMark row.tag b) where
+  module _ {r : ℕ} {out₁ : List ℕ} where
+    pub open_parts : row.tag ≤ 10 → Wrote b at r out out₁ → OpeningWalked C row at r out out₁
+    open_parts h v = record { means = λ t n i f c e w d s. wrote_as (mark_text low m (λ x y. omega arith) e s) v }
 
-module _ {C : List ℕ} {row : Val} {b at : ℕ} {out : List ℕ} (low : 5 ≤ row.tag) (m : OpeningMark row.tag b) where
-  pub open_none : b ≡ 0 → OpeningWalked C row at at out out
-  open_none h = record { means = λ t n i f c e w g r. wrote_as (sym (none_text low m e h r)) wrote_none }
+    pub open_bu : 15 < row.tag → Wrote b at r out out₁ → OpeningWalked C row at r out out₁
+    open_bu h v = record { means = λ t n i f c e w d s. wrote_as (mark_text low m (λ x y. omega arith) e s) v }
 
-  pub open_mark : {r : ℕ} {out₁ : List ℕ} → (b ≡ 0 → ⊥) → (b ≡ 37 → ⊥) → Wrote (b ∷ []) at r out out₁ → OpeningWalked C row at r out out₁
-  open_mark h g v = record { means = λ t n i f c e w d r. wrote_as (mark_text_lem low m e h g r) v }
-
-  module _ {p q : ℕ} {out₁ out₂ : List ℕ} (h : b ≡ 37) (v : Wrote (b ∷ []) at p out out₁) (o : ConstantWalked C (record { tag = row.tag % 4; word = row.word }) p q out₁ out₂) where
+  module _ {p q : ℕ} {out₁ out₂ : List ℕ} (h : 10 < row.tag) (l : row.tag ≤ 15) (v : Wrote b at p out out₁) (o : ConstantWalked C (record { tag = row.tag % 4; word = row.word }) p q out₁ out₂) where
     constant_text : {t : List ℕ} {n i : ℕ} (f : Form) → n < 4294967296 → row.tag ≡ kind_at t i → row.word ≡ wide_at t i → Writable f → Row t C n i f → Wrote (opening f) at q out out₂
     unfolding opening
     constant_text f c e w d (row_op y a z) = absurd (omega arith)
     constant_text f c e w d (row_select y a z) = absurd (omega arith)
     constant_text f c e w d (row_select_right y a z) = absurd (omega arith)
     constant_text f c e w d (row_name y a z) = absurd (omega arith)
-    constant_text f c e w d (row_chain y a z) = let x = m.chain (omega arith) in absurd (omega arith)
-    constant_text f c e w d (row_construct y a z) = let x = m.construct (omega arith) in absurd (omega arith)
-    constant_text f c e w d (row_insert y a z) = let x = m.insert (omega arith) in absurd (omega arith)
-    constant_text f c e w d (row_apply_all y a z) = let x = m.apply_all (omega arith) in absurd (omega arith)
-    constant_text f c e w d (row_condition y a z) = let x = m.condition (omega arith) in absurd (omega arith)
-    constant_text f c e w d (row_while y a z) = let x = m.while (omega arith) in absurd (omega arith)
+    constant_text f c e w d (row_chain y a z) = absurd (omega arith)
+    constant_text f c e w d (row_construct y a z) = absurd (omega arith)
+    constant_text f c e w d (row_insert y a z) = absurd (omega arith)
+    constant_text f c e w d (row_apply_all y a z) = absurd (omega arith)
+    constant_text f c e w d (row_condition y a z) = absurd (omega arith)
+    constant_text f c e w d (row_while y a z) = absurd (omega arith)
     constant_text {t} {n} {i} (constant x) c e w d (row_constant y a z r) =
         let few = d.few in
-        wrote_as (ap (λ (a : ℕ). a ∷ write_obj x) h) (wrote_then v (o.means n x c (omega arith) (own_constant row (e ∙ y) (w ∙ z) r)))
-    constant_text f c e w d (row_bu y a z r) = let x = m.bu (omega arith) in absurd (omega arith)
+        wrote_as (ap (λ (a : List ℕ). a ++ write_obj x) (m.constant h (omega arith))) (wrote_then v (o.means n x c (omega arith) (own_constant row (e ∙ y) (w ∙ z) r)))
+    constant_text f c e w d (row_bu y a z r) = absurd (omega arith)
 
     pub open_constant : OpeningWalked C row at q out out₂
     open_constant = record { means = λ t n i f c e w d r. constant_text f c e w d r }
@@ -295,9 +255,6 @@ module _ {C : List ℕ} {row : Val} {at r : ℕ} {out out' : List ℕ} where
       plain_right = record { means = λ t n i f c e w l d s. right_text c e w d s }
 
 -- all that opens a form below 5
-pub open_plain : {C : List ℕ} {row : Val} {at r : ℕ} {out out' : List ℕ} → row.tag < 5 → PlainWalked C row at r out out' → OpeningWalked C row at r out out'
-open_plain h p = record { means = λ t n i f c e w d s. p.means t n i f c e w h d s }
-
 -- ---- whether a part takes brackets
 pub takes_kind_lem : {t C : List ℕ} {n j k : ℕ} {g : Form} → k ≡ kind_at t j → Row t C n j g → takes_kind k ≡ takes_part g
 unfolding takes_kind
@@ -315,20 +272,3 @@ takes_kind_lem {k = k} e (row_constant q a w r) =
     let l = tag_low r in
     rw (lt-leb 16 k (omega arith), ne_eqb k 5 (λ z. absurd (omega arith)), ne_eqb k 7 (λ z. absurd (omega arith)), ne_eqb k 8 (λ z. absurd (omega arith)))
 takes_kind_lem {k = k} e (row_bu q a w r) = rw (le-leb 16 k (omega arith))
-
-module _ {k : ℕ} where
-  pub takes_bu : 15 < k → true ≡ takes_kind k
-  unfolding takes_kind
-  takes_bu h = rw (le-leb 16 k (omega arith))
-
-  pub takes_chain : k ≤ 15 → k ≡ 5 → true ≡ takes_kind k
-  unfolding takes_kind
-  takes_chain h e = rw e
-
-  pub takes_insert : k ≤ 15 → k ≡ 7 → true ≡ takes_kind k
-  unfolding takes_kind
-  takes_insert h e = rw e
-
-  pub takes_all : k ≤ 15 → (k ≡ 5 → ⊥) → (k ≡ 7 → ⊥) → eqb k 8 ≡ takes_kind k
-  unfolding takes_kind
-  takes_all h a b = rw (lt-leb 16 k (omega arith), ne_eqb k 5 a, ne_eqb k 7 b)

@@ -1,5 +1,5 @@
 -- What the calls on whole programs answer, for every program that the tables hold.
-use Rattle.std.specs.Prelude.{ℕ, min, ◌+◌, ◌*◌, ◌≤◌, ◌<◌, ◌≡◌, List, [], ◌∷◌, ◌++◌, length, drop, get_or}
+use Rattle.std.specs.Prelude.{ℕ, min, ◌+◌, ◌*◌, ◌≤◌, ◌<◌, ◌≡◌, List, [], ◌∷◌, ◌++◌, length, drop, get_or, Option, Some, None}
 use Prim.Native.Char.{code}
 use Rattle.language.specs.Numbers.{form_limit, mark_limit, written_limit}
 use Rattle.language.specs.Forms.{Forms, ◌&◌, Def, Prog}
@@ -8,11 +8,8 @@ use Rattle.packing.specs.Packing.{packed}
 use Rattle.language.specs.Writing.{write_form, write_program, marks_of_program}
 use Rattle.tables.specs.Tables.{field}
 use Rattle.formtable.specs.Standing.{Stands, bodies}
-use Rattle.program_writer.specs.declared.Way.{Way}
 use Rattle.program_writer.specs.declared.Measured.{Measured}
-use Rattle.program_writer.specs.declared.Written.{Written}
-use Rattle.program_writer.specs.declared.Written.TheVariants as W
-use Rattle.program_writer.specs.Walks.{Writable, Wrote, Went}
+use Rattle.program_writer.specs.Walks.{Way, Writable, Wrote, Went}
 
 -- the packed name in record k of the table of definitions
 abbrev pub name_at : List ℕ → ℕ → ℕ
@@ -54,10 +51,10 @@ pub record ProgramMeasured (t C D : List ℕ) (defs : ℕ) (r : Measured) : Type
   pub marks : (n e : ℕ) (P : Prog) → n < 4294967296 → e ≤ form_limit → length P ≡ defs → Stands t C n 0 (bodies P) e → r.marks ≡ min (marks_of_program P) (mark_limit + 1)
 
 -- All of the text stands in front and the rest of the output is as it was; or nothing has changed.
-pub data ProgramEnd (text : List ℕ) (r : Written) (out out' : List ℕ) : Type 0 where
-  program_written : length text ≤ min (length out) written_limit → r ≡ W.Done (length text) → out' ≡ text ++ drop (length text) out → ProgramEnd text r out out'
-  no_room : min (length out) written_limit < length text → r ≡ W.Short → out' ≡ out → ProgramEnd text r out out'
+pub data ProgramEnd (text : List ℕ) (r : Option ℕ) (out out' : List ℕ) : Type 0 where
+  program_written : length text ≤ min (length out) written_limit → r ≡ Some (length text) → out' ≡ text ++ drop (length text) out → ProgramEnd text r out out'
+  no_room : min (length out) written_limit < length text → r ≡ None → out' ≡ out → ProgramEnd text r out out'
 
-pub record ProgramWritten (t C D : List ℕ) (defs : ℕ) (r : Written) (out out' : List ℕ) : Type 0 where
-  pub fits : (l : ℕ) → r ≡ W.Done l → l ≤ min (length out) written_limit
+pub record ProgramWritten (t C D : List ℕ) (defs : ℕ) (r : Option ℕ) (out out' : List ℕ) : Type 0 where
+  pub fits : (l : ℕ) → r ≡ Some l → l ≤ min (length out) written_limit
   pub means : (n e : ℕ) (P : Prog) → Holds t C D defs n e P → marks_of_program P ≤ mark_limit → ProgramEnd (write_program P) r out out'

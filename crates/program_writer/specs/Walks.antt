@@ -1,6 +1,6 @@
 -- What the walks over texts and forms answer: the place behind the text, and what stands in the output then.
-use Rattle.std.specs.Prelude.{ℕ, min, ◌+◌, ◌≤◌, ◌<◌, ◌≡◌, List, length}
-use Prim.Native.Char.{code}
+use Rattle.std.specs.Prelude.{ℕ, min, ◌+◌, ◌≤◌, ◌<◌, ◌≡◌, List, [], length}
+use Rattle.language.specs.Bytes.{bytes}
 use Rattle.language.specs.Numbers.{form_limit, mark_limit, written_limit}
 use Rattle.language.specs.Objects.{Obj}
 use Rattle.language.specs.Forms.{Form, Forms, stop, ◌&◌, ◌+&◌, count}
@@ -11,8 +11,17 @@ use Rattle.language.specs.declared.Val.{Val}
 use Rattle.tables.specs.Tables.{put}
 use Rattle.cells.specs.Cells.{Rep}
 use Rattle.formtable.specs.Standing.{kind_at, wide_at, Row, Stands}
-use Rattle.program_writer.specs.declared.Way.{Way}
+use Rattle.program_writer.specs.declared.Writer.{Writer}
 use Rattle.program_writer.specs.Layout.{opening, behind_part, ending, part_text, parts_text}
+
+-- where a walk over forms has come to: the record behind the form, and the place behind its text
+pub record Way : Type 0 where
+  pub next : ℕ
+  pub place : ℕ
+
+-- the same output, of the same length
+abbrev pub Kept : Writer → Writer → Type 0
+Kept w w' = (w'.out.ghost_name ≡ w.out.ghost_name) × (length w'.out.now ≡ length w.out.now)
 
 -- r is the place n bytes behind `at`; places past 16,384 are all the same
 pub record Behind (at n r : ℕ) : Type 0 where
@@ -31,31 +40,31 @@ pub record ConstantWalked (C : List ℕ) (v : Val) (at r : ℕ) (out out' : List
   pub means : (n : ℕ) (x : Obj) → n < 4294967296 → marks_of_obj x ≤ mark_limit → Rep C n v x → Wrote (write_obj x) at r out out'
 
 -- ---- the marks of each kind of form
-pub record MarkBehind (k left r : ℕ) : Type 0 where
-  pub bu : 15 < k → r ≡ code ","
-  pub chain : k ≡ 5 → 0 < left → r ≡ code "."
-  pub chain_end : k ≡ 5 → left ≡ 0 → r ≡ 0
-  pub construct : k ≡ 6 → 0 < left → r ≡ code ","
-  pub construct_end : k ≡ 6 → left ≡ 0 → r ≡ code "]"
-  pub condition : k ≡ 9 → 1 < left → r ≡ code "-"
-  pub condition_then : k ≡ 9 → left ≡ 1 → r ≡ code ";"
-  pub condition_end : k ≡ 9 → left ≡ 0 → r ≡ code ")"
-  pub while : k ≡ 10 → 0 < left → r ≡ code "?"
-  pub while_end : k ≡ 10 → left ≡ 0 → r ≡ code ")"
-  pub other : (k < 5) → r ≡ 0
-  pub insert : k ≡ 7 → r ≡ 0
-  pub apply_all : k ≡ 8 → r ≡ 0
-  pub constant : 10 < k → k < 16 → r ≡ 0
+pub record MarkBehind (k left : ℕ) (r : List ℕ) : Type 0 where
+  pub bu : 15 < k → r ≡ bytes ","
+  pub chain : k ≡ 5 → 0 < left → r ≡ bytes "."
+  pub chain_end : k ≡ 5 → left ≡ 0 → r ≡ []
+  pub construct : k ≡ 6 → 0 < left → r ≡ bytes ","
+  pub construct_end : k ≡ 6 → left ≡ 0 → r ≡ bytes "]"
+  pub condition : k ≡ 9 → 1 < left → r ≡ bytes "->"
+  pub condition_then : k ≡ 9 → left ≡ 1 → r ≡ bytes ";"
+  pub condition_end : k ≡ 9 → left ≡ 0 → r ≡ bytes ")"
+  pub while : k ≡ 10 → 0 < left → r ≡ bytes "?"
+  pub while_end : k ≡ 10 → left ≡ 0 → r ≡ bytes ")"
+  pub other : (k < 5) → r ≡ []
+  pub insert : k ≡ 7 → r ≡ []
+  pub apply_all : k ≡ 8 → r ≡ []
+  pub constant : 10 < k → k < 16 → r ≡ []
 
-pub record OpeningMark (k r : ℕ) : Type 0 where
-  pub bu : 15 < k → r ≡ code "{"
-  pub chain : k ≡ 5 → r ≡ 0
-  pub construct : k ≡ 6 → r ≡ code "["
-  pub insert : k ≡ 7 → r ≡ code "/"
-  pub apply_all : k ≡ 8 → r ≡ code "@"
-  pub condition : k ≡ 9 → r ≡ code "("
-  pub while : k ≡ 10 → r ≡ code "("
-  pub constant : 10 < k → k < 16 → r ≡ code "%"
+pub record OpeningMark (k : ℕ) (r : List ℕ) : Type 0 where
+  pub bu : 15 < k → r ≡ bytes "{"
+  pub chain : k ≡ 5 → r ≡ []
+  pub construct : k ≡ 6 → r ≡ bytes "["
+  pub insert : k ≡ 7 → r ≡ bytes "/"
+  pub apply_all : k ≡ 8 → r ≡ bytes "@"
+  pub condition : k ≡ 9 → r ≡ bytes "("
+  pub while : k ≡ 10 → r ≡ bytes "("
+  pub constant : 10 < k → k < 16 → r ≡ bytes "%"
 
 -- ---- forms that can be written: their names unpack, and their objects open no 33rd mark
 pub record Writable (f : Form) : Type 0 where

@@ -1,69 +1,61 @@
 // Whole programs: measured, and written where there is room for all of it.
 ghost use Rattle.std.specs.Prelude.{◌≡◌};
+ghost use Rattle.program_writer.specs.Walks.{Kept};
 ghost use Rattle.program_writer.specs.Programs.{name_at, DefinitionWalked, ProgramWalked, ProgramDepth, TextMeasured, ProgramMeasured, ProgramWritten};
 
-use super::{Measured, Way, Written, forms, marks, texts};
+use super::{Measured, Writer, forms, marks, texts};
 
 // The packed name of definition k.
 fn name_at(d: &[u32], k: u32) -> u64
     ensures { result ≡ name_at d.now k }
 {
     let i = k as usize * 4;
-    let low = tables::at(d, i) as u64;
-    let high = tables::at(d, i + 1) as u64;
-    low + 4294967296 * high
+    tables::word(tables::at(d, i), tables::at(d, i + 1))
 }
 
-// Walks over definition k, whose body is at record i.
-fn walk_definition(
-    t: &[u32],
-    c: &[u32],
-    d: &[u32],
-    k: u32,
-    i: u32,
-    out: &mut [u8],
-    at: usize,
-) -> Way
-    ensures { DefinitionWalked t.now c.now d.now k i at result out.old out.new }
+// Walks over definition k, whose body is at record i, and gives the record behind it.
+fn walk_definition(w: &mut Writer<'_>, t: &[u32], c: &[u32], d: &[u32], k: u32, i: u32) -> u32
+    ensures kept { Kept w.old w.new }
+    ensures wrote { DefinitionWalked t.now c.now d.now k i w.old.at (record { next = result; place = w.new.at }) w.old.out.now w.new.out.now }
 {
-    let called = texts::walk_name(name_at(d, k), out, at);
-    let first = texts::walk_mark(out, called, b'=');
-    let w = forms::walk_form(t, c, i, out, first);
-    let place = texts::walk_mark(out, w.place, b';');
-    Way {
-        next: w.next,
-        place,
+    w.name(name_at(d, k));
+    w.mark(b'=');
+    let next = forms::walk_form(w, t, c, i);
+    w.mark(b';');
+    next
+}
+
+// Walks over so many definitions, from the output's front on.
+fn walk_definitions(w: &mut Writer<'_>, t: &[u32], c: &[u32], d: &[u32], defs: u32)
+    requires { w.old.at ≡ 0 }
+    ensures kept { Kept w.old w.new }
+    ensures wrote { ProgramWalked t.now c.now d.now defs w.new.at w.old.out.now w.new.out.now }
+{
+    let mut i = 0;
+    for k in 0..defs {
+        i = walk_definition(w, t, c, d, k, i);
     }
 }
 
-// Walks over the program of so many definitions.
+// Walks over the program of so many definitions, and gives the place behind it.
 fn walk_program(t: &[u32], c: &[u32], d: &[u32], defs: u32, out: &mut [u8]) -> usize
     ensures { ProgramWalked t.now c.now d.now defs result out.old out.new }
 {
-    let mut k: u32 = 0;
-    let mut i: u32 = 0;
-    let mut at: usize = 0;
-    while k < defs {
-        let w = walk_definition(t, c, d, k, i, out, at);
-        i = w.next;
-        at = w.place;
-        k += 1;
-    }
-    at
+    let mut w = Writer { out, at: 0 };
+    walk_definitions(&mut w, t, c, d, defs);
+    w.at
 }
 
 // The most marks open at once in the program of so many definitions, 33 if more than 32.
 fn program_marks(t: &[u32], c: &[u32], defs: u32) -> u32
     ensures { ProgramDepth t.now c.now defs result }
 {
-    let mut k: u32 = 0;
-    let mut i: u32 = 0;
+    let mut i = 0;
     let mut most: u32 = 0;
-    while k < defs {
+    for _ in 0..defs {
         let f = marks::form_marks(t, c, i);
         i = f.next;
-        most = marks::larger(most, f.marks);
-        k += 1;
+        most = most.max(f.marks);
     }
     most
 }
@@ -73,11 +65,7 @@ fn text_length(t: &[u32], c: &[u32], d: &[u32], defs: u32) -> usize
     ensures { TextMeasured t.now c.now d.now defs result }
 {
     let mut nothing = [0u8; 1];
-    let end = walk_program(t, c, d, defs, &mut nothing);
-    if language::WRITTEN_LIMIT < end {
-        return texts::TOO_LONG;
-    }
-    end
+    walk_program(t, c, d, defs, &mut nothing).min(texts::TOO_LONG)
 }
 
 // How long the program's text is, and how many marks are open at once in it.
@@ -90,17 +78,17 @@ pub fn measure_program(t: &[u32], c: &[u32], d: &[u32], defs: u32) -> Measured
     }
 }
 
-// Writes the program to the front of the output; or says that there is no room, and changes nothing.
-pub fn write_program(t: &[u32], c: &[u32], d: &[u32], defs: u32, out: &mut [u8]) -> Written
+// Writes the program to the front of the output, and gives its length; where there is no room (25) it changes nothing.
+pub fn write_program(t: &[u32], c: &[u32], d: &[u32], defs: u32, out: &mut [u8]) -> Option<usize>
     ensures { ProgramWritten t.now c.now d.now defs result out.old out.new }
 {
     let length = text_length(t, c, d, defs);
     if language::WRITTEN_LIMIT < length {
-        return Written::Short;
+        return None;
     }
     if out.len() < length {
-        return Written::Short;
+        return None;
     }
     walk_program(t, c, d, defs, out);
-    Written::Done(length)
+    Some(length)
 }

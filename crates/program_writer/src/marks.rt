@@ -1,5 +1,5 @@
 // The most marks open at once in a text, 33 if more than 32.
-ghost use Rattle.std.specs.Prelude.{◌≡◌, suc, min, max};
+ghost use Rattle.std.specs.Prelude.{◌≡◌, suc, min};
 ghost use Rattle.program_writer.specs.Depths.{ObjectDepth, PlacesDepth, OwnDepth, FormDepth, PartDepth, PartsDepth};
 
 use super::{Depth, forms};
@@ -8,21 +8,11 @@ use language::Val;
 // More than 32 marks.
 const TOO_DEEP: u32 = 33;
 
-// The larger of two.
-pub fn larger(a: u32, b: u32) -> u32
-    ensures { result ≡ max a b }
-{
-    if a < b { b } else { a }
-}
-
 // One mark more, up to 33.
 fn one_more(marks: u32) -> u32
     ensures { result ≡ min (suc marks) 33 }
 {
-    if language::MARK_LIMIT < marks {
-        return TOO_DEEP;
-    }
-    marks + 1
+    marks.min(language::MARK_LIMIT) + 1
 }
 
 // The marks of what v stands for, up to `limit`.
@@ -44,14 +34,11 @@ fn object_marks(c: &[u32], v: Val, limit: u32) -> u32
 fn places_marks(c: &[u32], v: Val, limit: u32) -> u32
     ensures { PlacesDepth c.now v limit result }
 {
-    let mut left = cells::size(v);
     let mut s = v;
     let mut most: u32 = 0;
-    while 0 < left {
-        let here = object_marks(c, cells::head(c, s), limit);
-        most = larger(most, here);
+    for _ in 0..cells::size(v) {
+        most = most.max(object_marks(c, cells::head(c, s), limit));
         s = cells::tail(c, s);
-        left -= 1;
     }
     most
 }
@@ -86,7 +73,7 @@ pub fn form_marks(t: &[u32], c: &[u32], i: u32) -> Depth
     let row = cells::value_at(t, i);
     let arity = tables::at(t, i as usize * 4 + 1);
     let d = parts_marks(t, c, row.tag, arity, i + 1);
-    let inside = larger(d.marks, own_marks(c, row));
+    let inside = d.marks.max(own_marks(c, row));
     if row.tag < formtable::CONSTRUCT {
         return Depth {
             next: d.next,
@@ -104,14 +91,12 @@ pub fn form_marks(t: &[u32], c: &[u32], i: u32) -> Depth
 fn parts_marks(t: &[u32], c: &[u32], kind: u32, arity: u32, from: u32) -> Depth
     ensures { PartsDepth t.now c.now kind arity from result }
 {
-    let mut left = arity;
     let mut i = from;
     let mut most: u32 = 0;
-    while 0 < left {
-        left -= 1;
+    for _ in 0..arity {
         let d = part_marks(t, c, kind, i);
         i = d.next;
-        most = larger(most, d.marks);
+        most = most.max(d.marks);
     }
     Depth {
         next: i,

@@ -1,9 +1,9 @@
-// Walks over words, names and constants. A walk gives the place behind its text, and writes only where the output has room:
-// so the same walk measures, and then writes.
-ghost use Rattle.std.specs.Prelude.{[], ◌∷◌, ◌≤◌, length, take};
+// Walks over texts, words, names and constants.
+ghost use Rattle.std.specs.Prelude.{[], ◌∷◌};
 ghost use Rattle.lexer.specs.Vocabulary.{spelled_at};
-ghost use Rattle.program_writer.specs.Walks.{Behind, Wrote, NameWalked, ConstantWalked};
+ghost use Rattle.program_writer.specs.Walks.{Behind, Kept, Wrote, NameWalked, ConstantWalked};
 
+use super::Writer;
 use language::Val;
 
 // A place past 16,384.
@@ -13,73 +13,54 @@ pub const TOO_LONG: usize = 16385;
 fn behind(at: usize, n: usize) -> usize
     ensures { Behind at n result }
 {
-    if language::WRITTEN_LIMIT < at {
-        return TOO_LONG;
-    }
-    if language::WRITTEN_LIMIT - at < n {
-        return TOO_LONG;
-    }
-    at + n
+    at.saturating_add(n).min(TOO_LONG)
 }
 
-// Walks over one byte.
-pub fn walk_mark(out: &mut [u8], at: usize, b: u8) -> usize
-    ensures { Wrote (b ∷ []) at result out.old out.new }
-{
-    if out.len() <= at {
-        return behind(at, 1);
+impl<'a> Writer<'a> {
+    // Walks over a text.
+    pub fn text(&mut self, text: &[u8])
+        ensures kept { Kept self.old self.new }
+        ensures wrote { Wrote text.now self.old.at self.new.at self.old.out.now self.new.out.now }
+    {
+        objects::put_text(self.out, self.at, text);
+        self.at = behind(self.at, text.len());
     }
-    out[at] = b;
-    behind(at, 1)
-}
 
-// Walks over the first n bytes of `text`.
-fn walk_bytes(text: &[u8], n: usize, out: &mut [u8], from: usize) -> usize
-    requires { n ≤ length text.now }
-    ensures { Wrote (take n text.now) from result out.old out.new }
-{
-    let mut at = from;
-    let mut i = 0;
-    while i < n {
-        at = walk_mark(out, at, text[i]);
-        i += 1;
+    // Walks over one byte.
+    pub fn mark(&mut self, b: u8)
+        ensures kept { Kept self.old self.new }
+        ensures wrote { Wrote (b ∷ []) self.old.at self.new.at self.old.out.now self.new.out.now }
+    {
+        self.text(&[b]);
     }
-    at
-}
 
-// Walks over the primitive word with this code.
-pub fn walk_word(code: u32, out: &mut [u8], from: usize) -> usize
-    ensures { Wrote (spelled_at code) from result out.old out.new }
-{
-    let n = lexer::word_length(code);
-    let mut at = from;
-    let mut i = 0;
-    while i < n {
-        at = walk_mark(out, at, lexer::word_byte(code, i));
-        i += 1;
+    // Walks over the primitive word with this code.
+    pub fn word(&mut self, code: u32)
+        ensures kept { Kept self.old self.new }
+        ensures wrote { Wrote (spelled_at code) self.old.at self.new.at self.old.out.now self.new.out.now }
+    {
+        self.text(lexer::spelling(code));
     }
-    at
-}
 
-// Walks over the name that `word` is packed from.
-pub fn walk_name(word: u64, out: &mut [u8], at: usize) -> usize
-    ensures { NameWalked word at result out.old out.new }
-{
-    let mut letters = [0u8; language::WORD_LIMIT];
-    let n = packing::unpack(word, packing::Case::Lower, &mut letters);
-    walk_bytes(&letters, n, out, at)
-}
-
-// Walks over the object that v stands for.
-pub fn walk_constant(c: &[u32], v: Val, out: &mut [u8], at: usize) -> usize
-    ensures { ConstantWalked c.now v at result out.old out.new }
-{
-    if language::WRITTEN_LIMIT < at {
-        return TOO_LONG;
+    // Walks over the name that `word` is packed from.
+    pub fn name(&mut self, word: u64)
+        ensures kept { Kept self.old self.new }
+        ensures wrote { NameWalked word self.old.at self.new.at self.old.out.now self.new.out.now }
+    {
+        let mut letters = [0u8; language::WORD_LIMIT];
+        let n = packing::unpack(word, packing::Case::Lower, &mut letters);
+        self.text(&letters[..n]);
     }
-    match objects::walk_object(c, v, out, at, language::WRITTEN_LIMIT, 0) {
-        objects::Written::Done(e) => e,
-        objects::Written::Short => TOO_LONG,
-        objects::Written::Deep => TOO_LONG,
+
+    // Walks over the object that v stands for.
+    pub fn constant(&mut self, c: &[u32], v: Val)
+        ensures kept { Kept self.old self.new }
+        ensures wrote { ConstantWalked c.now v self.old.at self.new.at self.old.out.now self.new.out.now }
+    {
+        if language::WRITTEN_LIMIT < self.at {
+            return;
+        }
+        let end = objects::walk_object(c, v, self.out, self.at, language::WRITTEN_LIMIT, 0);
+        self.at = end.unwrap_or(TOO_LONG);
     }
 }

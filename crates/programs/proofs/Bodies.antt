@@ -6,7 +6,7 @@ use mathlib.Core.List.{List, [], ◌∷◌}
 use native.Mathlib.Omega.{arith}
 use lib.Dec.{eqb}
 use lib.ListN.{length}
-use lib.Seq.{slice}
+use Rattle.std.specs.Prelude.{slice_range}
 use Rattle.language.specs.Forms.{Form, forms_in, constant_cells}
 use Rattle.language.specs.Accepted.{IsName}
 use Rattle.packing.specs.Packing.{packed}
@@ -20,15 +20,13 @@ use Rattle.theorems.proofs.Refusals.{first_within}
 use Rattle.theorems.proofs.Calls.{definitions_calls}
 use Rattle.lexer.specs.Readings.{WordSized}
 use Rattle.lexer.specs.Judgements.{name_judged}
-use Rattle.lexer.specs.declared.NameJudged.{NameJudged}
-use Rattle.lexer.specs.declared.NameJudged.TheVariants as N
+use Rattle.std.specs.Prelude.{Result, Ok, Err}
+use Rattle.language.specs.declared.refusals.Refusal.{Refusal}
+use Rattle.language.specs.declared.refusals.RefusedText.{RefusedText}
+use Rattle.objects.proofs.Refused.{error_of, word_lent, placed as placed_error, Refuses, refuses_as}
 use Rattle.formtable.specs.Encoding.{encode_definitions}
 use Rattle.formtable.proofs.Lengths.{length_form, length_constants}
 use Rattle.forms.specs.declared.Upto.{Upto}
-use Rattle.forms.specs.declared.MarkRead.{MarkRead}
-use Rattle.forms.specs.declared.MarkRead.TheVariants as M
-use Rattle.forms.specs.declared.FormRead.{FormRead}
-use Rattle.forms.specs.declared.FormRead.TheVariants as F
 use Rattle.forms.specs.Readers.{form_at}
 use Rattle.programs.specs.Bodies.{body_at, placed, placed_at, definitions_at}
 use Rattle.forms.specs.Readings.{Ready, Marked, Run, FormLaid, FormMet, form_read, form_refused}
@@ -39,36 +37,36 @@ use Rattle.forms.proofs.Equations.{mark_same, mark_then, wrap}
 use Rattle.forms.proofs.Answers.{form_got, form_no, mark_got, mark_no, mark_passed, After, form_after}
 
 -- ---- read_body
-module _ (s : List ℕ) (at : ℕ) {q : MarkRead} (i : Marked 61 s at q) where
-  pub body_stops : {n c k p : ℕ} {t u t' u' : List ℕ} → q ≡ M.No k p → FormMet n c t u (F.No k p) t' u' (body_at s at)
+module _ (s : List ℕ) (at : ℕ) {q : Result ℕ RefusedText} (i : Marked 61 s at q) where
+  pub body_stops : {n c : ℕ} {e : RefusedText} {r : Result Upto RefusedText} {t u t' u' : List ℕ} → q ≡ Err e → r ≡ Err e → FormMet n c t u r t' u' (body_at s at)
   unfolding body_at
-  body_stops g = rw (mark_no (λ a. and_then (form_at s a mark_limit) (λ f e. mark 59 s e (λ a. got f a))) i g) (form_refused refl)
+  body_stops g o = let y = mark_no (λ a. and_then (form_at s a mark_limit) (λ f e. mark 59 s e (λ a. got f a))) i g in rw y.is (form_refused (refuses_as y o))
 
-  module _ {a : ℕ} (j : q ≡ M.Got a) where
+  module _ {a : ℕ} (j : q ≡ Ok a) where
     begun : body_at s at ≡ and_then (form_at s a mark_limit) (λ f e. mark 59 s e (λ a. got f a))
     unfolding body_at
     begun = mark_got (λ a. and_then (form_at s a mark_limit) (λ f e. mark 59 s e (λ a. got f a))) i j
 
-    module _ {n c : ℕ} {t u t₁ u₁ : List ℕ} {r : FormRead} (m : FormMet n c t u r t₁ u₁ (form_at s a 32)) where
-      pub body_no : {k p : ℕ} {t' u' : List ℕ} → r ≡ F.No k p → FormMet n c t u (F.No k p) t' u' (body_at s at)
-      body_no e = rw (begun ∙ ap (λ (g : Got Form). and_then g (λ f e. mark 59 s e (λ a. got f a))) (form_no m e)) (form_refused refl)
+    module _ {n c : ℕ} {t u t₁ u₁ : List ℕ} {r : Result Upto RefusedText} (m : FormMet n c t u r t₁ u₁ (form_at s a 32)) where
+      pub body_no : {e : RefusedText} {r₂ : Result Upto RefusedText} {t' u' : List ℕ} → r ≡ Err e → r₂ ≡ Err e → FormMet n c t u r₂ t' u' (body_at s at)
+      body_no e o = let y = form_no m e in rw (begun ∙ ap (λ (g : Got Form). and_then g (λ f e. mark 59 s e (λ a. got f a))) y.is) (form_refused (refuses_as y o))
 
-      module _ {x : Upto} {z : MarkRead} (e : r ≡ F.Got x) (k : Marked 59 s x.next z) where
+      module _ {x : Upto} {z : Result ℕ RefusedText} (e : r ≡ Ok x) (k : Marked 59 s x.next z) where
         whole : body_at s at ≡ mark 59 s x.next (λ a. got (form_got m e).form a)
         whole = begun ∙ ap (λ (g : Got Form). and_then g (λ f e. mark 59 s e (λ a. got f a))) (form_got m e).is
 
-        pub body_open : {o p : ℕ} {t' u' : List ℕ} → z ≡ M.No o p → FormMet n c t u (F.No o p) t' u' (body_at s at)
-        body_open g = rw (whole ∙ mark_no (λ a. got (form_got m e).form a) k g) (form_refused refl)
+        pub body_open : {o : RefusedText} {r₂ : Result Upto RefusedText} {t' u' : List ℕ} → z ≡ Err o → r₂ ≡ Err o → FormMet n c t u r₂ t' u' (body_at s at)
+        body_open g o = let y = mark_no (λ a. got (form_got m e).form a) k g in rw (whole ∙ y.is) (form_refused (refuses_as y o))
 
-        pub body_is : {b : ℕ} → z ≡ M.Got b → FormMet n c t u (F.Got (record { next = b; forms = x.forms; cells = x.cells })) t₁ u₁ (body_at s at)
+        pub body_is : {b : ℕ} → z ≡ Ok b → FormMet n c t u (Ok (record { next = b; forms = x.forms; cells = x.cells })) t₁ u₁ (body_at s at)
         body_is g = rw (whole ∙ mark_got (λ a. got (form_got m e).form a) k g) (form_read refl refl (form_got m e).laid)
 
-pub body_ready : {s : List ℕ} {at n c a : ℕ} {q : MarkRead} → Ready s at n c → Marked 61 s at q → q ≡ M.Got a → Ready s a n c
+pub body_ready : {s : List ℕ} {at n c a : ℕ} {q : Result ℕ RefusedText} → Ready s at n c → Marked 61 s at q → q ≡ Ok a → Ready s a n c
 body_ready b i j =
     let v = mark_passed (omega arith) i j in
     record { short = b.short; inside = v.1; forms = omega (arith, b.forms, v.0); cells = omega (arith, b.cells, v.0) }
 
-pub body_mark_requires : (s : List ℕ) (a : ℕ) {at n c : ℕ} {t u t₁ u₁ : List ℕ} {q : MarkRead} {r : FormRead} {x : Upto} → Ready s at n c → Marked 61 s at q → q ≡ M.Got a → FormMet n c t u r t₁ u₁ (form_at s a 32) → r ≡ F.Got x → x.next ≤ length s
+pub body_mark_requires : (s : List ℕ) (a : ℕ) {at n c : ℕ} {t u t₁ u₁ : List ℕ} {q : Result ℕ RefusedText} {r : Result Upto RefusedText} {x : Upto} → Ready s at n c → Marked 61 s at q → q ≡ Ok a → FormMet n c t u r t₁ u₁ (form_at s a 32) → r ≡ Ok x → x.next ≤ length s
 body_mark_requires s a b i j m e = (form_after 32 (body_ready b i j) m e).ready.inside
 
 -- ---- read_definition
@@ -79,39 +77,43 @@ record JudgedName (j : Judged (List ℕ)) (v : ℕ) : Type 0 where
   good : IsName called
   packs : v ≡ packed called
 
-name_judged_lem : {j : Judged (List ℕ)} {n v : ℕ} → MeetsWord (IsNameIn n) j → name_judged j ≡ N.Is v → JudgedName j v
-name_judged_lem {v = v} (meets_word {a = w} q) e =
+name_as : {j : Judged (List ℕ)} {n v : ℕ} → MeetsWord (IsNameIn n) j → name_judged j ≡ Ok v → JudgedName j v
+name_as {v = v} (meets_word {a = w} q) e =
     let z : packed w ≡ v = cc in
     record { called = w; judged = refl; good = q.is_name; packs = sym z }
-name_judged_lem misspelled e = absurd (let z : ◌≡◌ {A = ℕ} 0 1 = cc in omega arith)
-name_judged_lem out_of_range e = absurd (let z : ◌≡◌ {A = ℕ} 0 1 = cc in omega arith)
-name_judged_lem too_long e = absurd (let z : ◌≡◌ {A = ℕ} 0 1 = cc in omega arith)
+name_as misspelled e = absurd (let z : ◌≡◌ {A = ℕ} 0 1 = cc in omega arith)
+name_as out_of_range e = absurd (let z : ◌≡◌ {A = ℕ} 0 1 = cc in omega arith)
+name_as too_long e = absurd (let z : ◌≡◌ {A = ℕ} 0 1 = cc in omega arith)
 
-not_judged : (j : Judged (List ℕ)) {k : ℕ} → name_judged j ≡ N.Not k → j ≡ is_not k
-not_judged (is w) e = absurd (let z : ◌≡◌ {A = ℕ} 0 1 = cc in omega arith)
-not_judged (is_not n) e = cc
+module _ {s : List ℕ} {p size : ℕ} {j : Result ℕ RefusedText} (i : WordSized s p size) (h : j ≡ placed_error p (name_judged (judge_name (slice_range s p (p + size))))) where
+  judged_here : placed_error p (name_judged (judge_name (word_at s p))) ≡ j
+  judged_here = sym (h ∙ ap (λ (w : List ℕ). placed_error p (name_judged (judge_name w))) (word_lent i))
 
-module _ {s : List ℕ} {p size : ℕ} {j : NameJudged} (i : WordSized s p size) (h : j ≡ name_judged (judge_name (slice p (p + size) s))) where
-  judged_here : name_judged (judge_name (word_at s p)) ≡ j
-  judged_here = ap (λ (x : ℕ). name_judged (judge_name (slice p (p + x) s))) (sym i.is) ∙ sym h
-
-  pub definition_unnamed : {n c k o : ℕ} {t u d t' u' d' : List ℕ} → j ≡ N.Not o → PlacedMet n c k t u d (F.No o p) t' u' d' (placed_at s p)
+  pub definition_unnamed : {n c k : ℕ} {e : RefusedText} {r : Result Upto RefusedText} {t u d t' u' d' : List ℕ} → j ≡ Err e → r ≡ Err e → PlacedMet n c k t u d r t' u' d' (placed_at s p)
   unfolding placed_at
-  definition_unnamed e = rw (not_judged (judge_name (word_at s p)) (judged_here ∙ e)) (placed_refused refl)
+  definition_unnamed {n} {c} {k} {e} {r} {t} {u} {d} {t'} {u'} {d'} f o = go (judge_name (word_at s p)) (judged_here ∙ f)
+    where
+      go : (x : Judged (List ℕ)) → placed_error p (name_judged x) ≡ Err e → PlacedMet n c k t u d r t' u' d' (and_then (as_judged s p x) (λ w e. and_then (body_at s e) (λ f e. got (placed p w f) e)))
+      go (is w) g = absurd (let z : ◌≡◌ {A = ℕ} 0 1 = cc in omega arith)
+      go (is_not m) g = placed_refused {j = m} {p = p} (o ∙ ap (λ (t : RefusedText). Err t) (sym (error_of g)))
 
-  module _ {v : ℕ} (e : j ≡ N.Is v) where
+  module _ {v : ℕ} (e : j ≡ Ok v) where
+    as_ok : (x : Result ℕ Refusal) → placed_error p x ≡ Ok v → x ≡ Ok v
+    as_ok (Ok y) g = cc
+    as_ok (Err y) g = absurd (let z : ◌≡◌ {A = ℕ} 0 1 = cc in omega arith)
+
     named : JudgedName (judge_name (word_at s p)) v
-    named = name_judged_lem (judged_name (word_at s p)) (judged_here ∙ e)
+    named = name_as (judged_name (word_at s p)) (as_ok (name_judged (judge_name (word_at s p))) (judged_here ∙ e))
 
     begins : placed_at s p ≡ and_then (body_at s (p + size)) (λ f e₁. got (placed p named.called f) e₁)
     unfolding placed_at
     begins = ap (λ (x : Judged (List ℕ)). and_then (as_judged s p x) (λ w e. and_then (body_at s e) (λ f e. got (placed p w f) e))) named.judged ∙ ap (λ (x : ℕ). and_then (body_at s (p + x)) (λ f e₁. got (placed p named.called f) e₁)) (sym i.is)
 
-    module _ {n c : ℕ} {t u t₁ u₁ : List ℕ} {r : FormRead} (m : FormMet n c t u r t₁ u₁ (body_at s (p + size))) where
-      pub definition_stops : {k o q : ℕ} {d t' u' d' : List ℕ} → r ≡ F.No o q → PlacedMet n c k t u d (F.No o q) t' u' d' (placed_at s p)
-      definition_stops g = rw (begins ∙ ap (λ (x : Got Form). and_then x (λ f e₁. got (placed p named.called f) e₁)) (form_no m g)) (placed_refused refl)
+    module _ {n c : ℕ} {t u t₁ u₁ : List ℕ} {r : Result Upto RefusedText} (m : FormMet n c t u r t₁ u₁ (body_at s (p + size))) where
+      pub definition_stops : {k : ℕ} {o : RefusedText} {r₂ : Result Upto RefusedText} {d t' u' d' : List ℕ} → r ≡ Err o → r₂ ≡ Err o → PlacedMet n c k t u d r₂ t' u' d' (placed_at s p)
+      definition_stops g o = let y = form_no m g in rw (begins ∙ ap (λ (x : Got Form). and_then x (λ f e₁. got (placed p named.called f) e₁)) y.is) (placed_refused (refuses_as y o))
 
-      pub definition_is : {k : ℕ} {d d' : List ℕ} {x : Upto} → r ≡ F.Got x → DefinitionPut k v n p d d' → PlacedMet n c k t u d (F.Got x) t₁ u₁ d' (placed_at s p)
+      pub definition_is : {k : ℕ} {d d' : List ℕ} {x : Upto} → r ≡ Ok x → DefinitionPut k v n p d d' → PlacedMet n c k t u d (Ok x) t₁ u₁ d' (placed_at s p)
       unfolding encode_definitions
       definition_is g w =
           let y = form_got m g in
@@ -170,24 +172,24 @@ pub record GotPlaced (n c k : ℕ) (t u d : List ℕ) (x : Upto) (t' u' d' : Lis
   pub laid : FormLaid definition.def.body n c t u x t' u'
   pub listed : Run (encode_definitions n (definition ∷ [])) k d (k + 1) d'
 
-module _ {n c k : ℕ} {t u d t' u' d' : List ℕ} {r : FormRead} {g : Got Placed} where
-  pub placed_got : {x : Upto} → PlacedMet n c k t u d r t' u' d' g → r ≡ F.Got x → GotPlaced n c k t u d x t' u' d' g
+module _ {n c k : ℕ} {t u d t' u' d' : List ℕ} {r : Result Upto RefusedText} {g : Got Placed} where
+  pub placed_got : {x : Upto} → PlacedMet n c k t u d r t' u' d' g → r ≡ Ok x → GotPlaced n c k t u d x t' u' d' g
   placed_got m e = go m e
     where
-      go : {x : Upto} {g : Got Placed} → PlacedMet n c k t u d r t' u' d' g → r ≡ F.Got x → GotPlaced n c k t u d x t' u' d' g
+      go : {x : Upto} {g : Got Placed} → PlacedMet n c k t u d r t' u' d' g → r ≡ Ok x → GotPlaced n c k t u d x t' u' d' g
       go {x} (placed_read {q = q} {x = y} h i v l w) e =
           let z : y ≡ x = cc in
           record { definition = q; is = ap (λ (v : ℕ). got q v) (sym i ∙ ap (λ (w : Upto). w.next) z); named = v; laid = rw z at l; listed = w }
       go (placed_refused h) e = absurd (let z : ◌≡◌ {A = ℕ} 0 1 = cc in omega arith)
 
-  pub placed_no : {j p : ℕ} → PlacedMet n c k t u d r t' u' d' g → r ≡ F.No j p → g ≡ no j p
+  pub placed_no : {e : RefusedText} → PlacedMet n c k t u d r t' u' d' g → r ≡ Err e → Refuses e g
   placed_no m e = go m e
     where
-      go : {j p : ℕ} {g : Got Placed} → PlacedMet n c k t u d r t' u' d' g → r ≡ F.No j p → g ≡ no j p
+      go : {e : RefusedText} {g : Got Placed} → PlacedMet n c k t u d r t' u' d' g → r ≡ Err e → Refuses e g
       go (placed_read h i v l w) e = absurd (let z : ◌≡◌ {A = ℕ} 0 1 = cc in omega arith)
-      go (placed_refused h) e = cc
+      go (placed_refused {j} {p} h) e = record { number = j; place = p; is = refl; told = error_of (sym e ∙ h) }
 
-pub definition_after : (s : List ℕ) (at : ℕ) {n c k p : ℕ} {t u d t' u' d' : List ℕ} {r : FormRead} {x : Upto} → Ready s at n c → p ≡ place_from s at → PlacedMet n c k t u d r t' u' d' (placed_at s p) → r ≡ F.Got x → After s at x
+pub definition_after : (s : List ℕ) (at : ℕ) {n c k p : ℕ} {t u d t' u' d' : List ℕ} {r : Result Upto RefusedText} {x : Upto} → Ready s at n c → p ≡ place_from s at → PlacedMet n c k t u d r t' u' d' (placed_at s p) → r ≡ Ok x → After s at x
 definition_after s at {n} {c} {p = p} {x = x} b z m e =
     let y = placed_got m e in
     let f = y.definition.def.body in

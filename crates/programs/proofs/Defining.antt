@@ -15,10 +15,11 @@ use Rattle.lexer.specs.Readings.{Skipped}
 use Rattle.formtable.specs.Encoding.{encode_form, constants_from, encode_program, program_constants, encode_definitions}
 use Rattle.formtable.proofs.Lengths.{length_program, length_program_constants}
 use Rattle.formtable.proofs.Appended.{programs_appended, program_constants_appended, definitions_appended}
+use Rattle.std.specs.Prelude.{Result, Ok, Err}
+use Rattle.language.specs.declared.refusals.RefusedText.{RefusedText}
+use Rattle.objects.proofs.Refused.{refuses_as}
 use Rattle.forms.specs.declared.Upto.{Upto}
-use Rattle.forms.specs.declared.FormRead.{FormRead}
-use Rattle.forms.specs.declared.FormRead.TheVariants as F
-use Rattle.programs.specs.declared.DefinitionsRead.TheVariants as D
+use Rattle.programs.specs.declared.ProgramRead.{ProgramRead}
 use Rattle.programs.specs.Bodies.{placed_at, definitions_at}
 use Rattle.forms.specs.Readings.{Ready, Run, Laid}
 use Rattle.programs.specs.Definitions.{AllNamed, none_named, more_named, PlacedMet, DefinitionsMet, definitions_read, definitions_refused}
@@ -100,7 +101,7 @@ module _ (ds : List Placed) (d : Placed) {n c : ℕ} {t u t₁ u₁ : List ℕ} 
 
 module _ (s : List ℕ) {t₀ u₀ d₀ : List ℕ} {at n c k : ℕ} {t u d : List ℕ} {p : ℕ} (w : Defining s t₀ u₀ d₀ at n c k t u d) (i : Skipped s at p) where
   -- the text ends
-  pub definitions_end : p ≡ length s → DefinitionsMet t₀ u₀ d₀ (D.Got k n c) t u d (definitions_at s 0)
+  pub definitions_end : p ≡ length s → DefinitionsMet t₀ u₀ d₀ (Ok (record { definitions = k; forms = n; cells = c })) t u d (definitions_at s 0)
   definitions_end e =
       let z : definitions_at s at ≡ got [] (place_from s at) = definitions_are s at w.ready.inside ∙ rw (eq-eqb (place_from s at) (length s) (sym i.is ∙ e)) in
       let v : definitions_at s 0 ≡ got w.read (place_from s at) = w.is ∙ ap (λ (g : Got (List Placed)). and_then g (λ ds e. got (w.read ++ ds) e)) z ∙ ap (λ (x : List Placed). got x (place_from s at)) (append-nil w.read) in
@@ -113,13 +114,14 @@ module _ (s : List ℕ) {t₀ u₀ d₀ : List ℕ} {at n c k : ℕ} {t u d : Li
     next : definitions_at s at ≡ and_then (placed_at s p) (λ d e. and_then (definitions_at s e) (λ ds e. got (d ∷ ds) e))
     next = definitions_are s at w.ready.inside ∙ rw (ne_eqb (place_from s at) (length s) (λ z. o (i.is ∙ z)), ← i.is)
 
-    module _ {t₁ u₁ d₁ : List ℕ} {r : FormRead} (m : PlacedMet n c k t u d r t₁ u₁ d₁ (placed_at s p)) where
-      pub definitions_stop : {j q : ℕ} {t' u' d' : List ℕ} → r ≡ F.No j q → DefinitionsMet t₀ u₀ d₀ (D.No j q) t' u' d' (definitions_at s 0)
-      definitions_stop {j} {q} e =
-          let z : definitions_at s at ≡ no j q = next ∙ ap (λ (g : Got Placed). and_then g (λ d e. and_then (definitions_at s e) (λ ds e. got (d ∷ ds) e))) (placed_no m e) in
-          rw (w.is ∙ ap (λ (g : Got (List Placed)). and_then g (λ ds e. got (w.read ++ ds) e)) z) (definitions_refused refl)
+    module _ {t₁ u₁ d₁ : List ℕ} {r : Result Upto RefusedText} (m : PlacedMet n c k t u d r t₁ u₁ d₁ (placed_at s p)) where
+      pub definitions_stop : {e : RefusedText} {r₂ : Result ProgramRead RefusedText} {t' u' d' : List ℕ} → r ≡ Err e → r₂ ≡ Err e → DefinitionsMet t₀ u₀ d₀ r₂ t' u' d' (definitions_at s 0)
+      definitions_stop e o₂ =
+          let y = placed_no m e in
+          let z : definitions_at s at ≡ no y.number y.place = next ∙ ap (λ (g : Got Placed). and_then g (λ d e. and_then (definitions_at s e) (λ ds e. got (d ∷ ds) e))) y.is in
+          rw (w.is ∙ ap (λ (g : Got (List Placed)). and_then g (λ ds e. got (w.read ++ ds) e)) z) (definitions_refused (refuses_as y o₂))
 
-      module _ {x : Upto} (e : r ≡ F.Got x) where
+      module _ {x : Upto} (e : r ≡ Ok x) where
         ahead : After s at x
         ahead = definition_after s at w.ready i.is m e
 

@@ -18,7 +18,7 @@ use Rattle.tables.proofs.Put.{put_inside}
 use Rattle.formtable.proofs.Lengths.{length_definitions}
 use Rattle.formtable.proofs.Names.{name_test}
 use Rattle.formtable.specs.Encoding.{low_of, high_of, encode_definitions, named}
-use Rattle.programs.specs.declared.TwiceRead.TheVariants as T
+use Rattle.std.specs.Prelude.{Some, None}
 use Rattle.programs.specs.Definitions.{AllNamed, none_named, more_named, defined_name, place_at, earlier_of, Listed, Compared, TwiceMet}
 
 -- ---- is_earlier
@@ -91,7 +91,7 @@ module _ {d : List ℕ} {n i : ℕ} {r : Bool} (w : Single d n i) (l : i < n) (m
       let q = split ds i (omega arith) in
       w.means ds good t h ∙ rw (q.rest, ← q.name, ← q.place, ← (m.means ds t (omega arith)))
 
-  pub twice_found : {p : ℕ} → r ≡ true → p ≡ field d i 3 → TwiceMet d n (T.At p)
+  pub twice_found : {p : ℕ} → r ≡ true → p ≡ field d i 3 → TwiceMet d n (Some p)
   twice_found {p} e g = record { means = λ ds good t h. twice_step ds good t h ∙ rw (e, g, t.place i (omega arith)) }
 
   pub twice_next : r ≡ false → Single d n (i + 1)
@@ -103,7 +103,7 @@ drop_all [] (suc i) h = refl
 drop_all (d ∷ ds) zero h = absurd (omega arith)
 drop_all (d ∷ ds) (suc i) h = drop_all ds i (omega arith)
 
-pub twice_none : {d : List ℕ} {n i : ℕ} → Single d n i → n ≤ i → TwiceMet d n T.Nowhere
+pub twice_none : {d : List ℕ} {n i : ℕ} → Single d n i → n ≤ i → TwiceMet d n None
 unfolding none_twice
 twice_none {i = i} w l = record { means = λ ds good t h. w.means ds good t h ∙ rw (drop_all ds i (omega arith)) }
 

@@ -1,5 +1,5 @@
 -- What the readers of definitions answer, and what the table of definitions holds then.
-use Rattle.std.specs.Prelude.{ℕ, zero, suc, ◌+◌, ◌*◌, ◌≤◌, ◌<◌, ◌≡◌, Bool, List, [], ◌∷◌, map, length, get_or}
+use Rattle.std.specs.Prelude.{ℕ, zero, suc, ◌+◌, ◌*◌, ◌≤◌, ◌<◌, ◌≡◌, Bool, List, [], ◌∷◌, map, length, get_or, Option, Some, None, Result, Ok, Err}
 use Rattle.language.specs.Forms.{Prog, forms_of, program_cells}
 use Rattle.language.specs.Accepted.{IsName}
 use Rattle.packing.specs.Packing.{packed}
@@ -7,14 +7,9 @@ use Rattle.language.specs.Reading.{Got, got, no, Placed, program_of, is_in, none
 use Rattle.tables.specs.Tables.{put, field, record_put}
 use Rattle.formtable.specs.Encoding.{low_of, high_of, encode_program, program_constants, encode_definitions}
 use Rattle.forms.specs.declared.Upto.{Upto}
-use Rattle.forms.specs.declared.FormRead.{FormRead}
-use Rattle.forms.specs.declared.FormRead.TheVariants as F
-use Rattle.programs.specs.declared.DefinitionsRead.{DefinitionsRead}
-use Rattle.programs.specs.declared.DefinitionsRead.TheVariants as D
-use Rattle.programs.specs.declared.TwiceRead.{TwiceRead}
-use Rattle.programs.specs.declared.TwiceRead.TheVariants as T
+use Rattle.language.specs.declared.refusals.RefusedText.{RefusedText}
+use Rattle.language.specs.Refusals.{refused_at}
 use Rattle.programs.specs.declared.ProgramRead.{ProgramRead}
-use Rattle.programs.specs.declared.ProgramRead.TheVariants as P
 use Rattle.forms.specs.Readings.{Run, Laid, FormLaid}
 
 -- the names, in order
@@ -35,14 +30,14 @@ pub record DefinitionPut (k name root place : ℕ) (d d' : List ℕ) : Type 0 wh
   pub is : d' ≡ record_put d k (low_of name) (high_of name) root place
 
 -- one definition: its body from record n on, its own record k
-pub data PlacedMet (n c k : ℕ) (t u d : List ℕ) (r : FormRead) (t' u' d' : List ℕ) : Got Placed → Type 0 where
-  placed_read : {q : Placed} {e : ℕ} {x : Upto} → r ≡ F.Got x → x.next ≡ e → IsName q.def.called → FormLaid q.def.body n c t u x t' u' → Run (encode_definitions n (q ∷ [])) k d (k + 1) d' → PlacedMet n c k t u d r t' u' d' (got q e)
-  placed_refused : {j p : ℕ} → r ≡ F.No j p → PlacedMet n c k t u d r t' u' d' (no j p)
+pub data PlacedMet (n c k : ℕ) (t u d : List ℕ) (r : Result Upto RefusedText) (t' u' d' : List ℕ) : Got Placed → Type 0 where
+  placed_read : {q : Placed} {e : ℕ} {x : Upto} → r ≡ Ok x → x.next ≡ e → IsName q.def.called → FormLaid q.def.body n c t u x t' u' → Run (encode_definitions n (q ∷ [])) k d (k + 1) d' → PlacedMet n c k t u d r t' u' d' (got q e)
+  placed_refused : {j p : ℕ} → r ≡ Err (refused_at j p) → PlacedMet n c k t u d r t' u' d' (no j p)
 
 -- all definitions, from the first records on
-pub data DefinitionsMet (t u d : List ℕ) (r : DefinitionsRead) (t' u' d' : List ℕ) : Got (List Placed) → Type 0 where
-  definitions_read : {ds : List Placed} {e k n c : ℕ} → r ≡ D.Got k n c → k ≡ length ds → AllNamed ds → Laid (encode_program 0 (program_of ds)) (program_constants 0 (program_of ds)) 0 0 t u n c t' u' → Run (encode_definitions 0 ds) 0 d k d' → DefinitionsMet t u d r t' u' d' (got ds e)
-  definitions_refused : {j p : ℕ} → r ≡ D.No j p → DefinitionsMet t u d r t' u' d' (no j p)
+pub data DefinitionsMet (t u d : List ℕ) (r : Result ProgramRead RefusedText) (t' u' d' : List ℕ) : Got (List Placed) → Type 0 where
+  definitions_read : {ds : List Placed} {e : ℕ} {w : ProgramRead} → r ≡ Ok w → w.definitions ≡ length ds → AllNamed ds → Laid (encode_program 0 (program_of ds)) (program_constants 0 (program_of ds)) 0 0 t u w.forms w.cells t' u' → Run (encode_definitions 0 ds) 0 d w.definitions d' → DefinitionsMet t u d r t' u' d' (got ds e)
+  definitions_refused : {j p : ℕ} → r ≡ Err (refused_at j p) → DefinitionsMet t u d r t' u' d' (no j p)
 
 -- ---- names that are defined twice
 -- the names before definition i, the nearest first
@@ -60,11 +55,11 @@ pub record Listed (d : List ℕ) (ds : List Placed) : Type 0 where
 pub record Compared (d : List ℕ) (i : ℕ) (r : Bool) : Type 0 where
   pub means : (ds : List Placed) → Listed d ds → i < length ds → r ≡ is_in (defined_name ds i) (earlier_of ds i)
 
-abbrev pub twice_of : TwiceRead → Got Prog → Got Prog
-twice_of (T.At p) good = no 11 p
-twice_of T.Nowhere good = good
+abbrev pub twice_of : Option ℕ → Got Prog → Got Prog
+twice_of (Some p) good = no 11 p
+twice_of None good = good
 
-pub record TwiceMet (d : List ℕ) (n : ℕ) (r : TwiceRead) : Type 0 where
+pub record TwiceMet (d : List ℕ) (n : ℕ) (r : Option ℕ) : Type 0 where
   pub means : (ds : List Placed) (good : Got Prog) → Listed d ds → length ds ≡ n → none_twice [] ds good ≡ twice_of r good
 
 -- ---- a whole program
@@ -81,6 +76,6 @@ pub record ProgramLaid (s : List ℕ) (P : Prog) (e : ℕ) (t u d : List ℕ) (k
   pub constants : program_cells P * 4 ≤ length u → u' ≡ put u 0 (program_constants 0 P)
   pub long : length u' ≡ length u
 
-pub data ProgramMet (s t u d : List ℕ) (r : ProgramRead) (t' u' d' : List ℕ) : Got Prog → Type 0 where
-  program_read : {Q : Prog} {e k n c : ℕ} → r ≡ P.Got k n c → ProgramLaid s Q e t u d k n c t' u' d' → ProgramMet s t u d r t' u' d' (got Q e)
-  program_refused : {j p : ℕ} → r ≡ P.No j p → ProgramMet s t u d r t' u' d' (no j p)
+pub data ProgramMet (s t u d : List ℕ) (r : Result ProgramRead RefusedText) (t' u' d' : List ℕ) : Got Prog → Type 0 where
+  program_read : {Q : Prog} {e : ℕ} {w : ProgramRead} → r ≡ Ok w → ProgramLaid s Q e t u d w.definitions w.forms w.cells t' u' d' → ProgramMet s t u d r t' u' d' (got Q e)
+  program_refused : {j p : ℕ} → r ≡ Err (refused_at j p) → ProgramMet s t u d r t' u' d' (no j p)

@@ -7,34 +7,19 @@ ghost use Rattle.programs.specs.Bodies.{body_at, placed_at, definitions_at};
 ghost use Rattle.forms.specs.Readings.{Ready, FormMet};
 ghost use Rattle.programs.specs.Definitions.{DefinitionPut, PlacedMet, DefinitionsMet, Compared, TwiceMet, ProgramMet};
 
-use super::{DefinitionsRead, ProgramRead, TwiceRead};
-use forms::{FormRead, MarkRead, Upto};
-use lexer::NameJudged;
+use super::ProgramRead;
+use forms::Upto;
+use language::{Refusal, RefusedText};
 
 // Behind a name: the `=`, the form and the `;`.
-fn read_body(s: &[u8], at: usize, t: &mut [u32], n: usize, c: &mut [u32], used: u32) -> FormRead
-    requires { Ready s.now at n used }
-    ensures { FormMet n used t.old c.old result t.new c.new (body_at s.now at) }
+fn read_body(s: &[u8], from: Upto, t: &mut [u32], c: &mut [u32]) -> Result<Upto, RefusedText>
+    requires { Ready s.now from.next from.forms from.cells }
+    ensures { FormMet from.forms from.cells t.old c.old result t.new c.new (body_at s.now from.next) }
 {
-    let a = match forms::read_mark(s, at, b'=') {
-        MarkRead::No(number, place) => return FormRead::No(number, place),
-        MarkRead::Got(a) => a,
-    };
-    let x = match forms::read_form(s, a, language::MARK_LIMIT, t, n, c, used) {
-        FormRead::No(number, place) => return FormRead::No(number, place),
-        FormRead::Got(x) => x,
-    };
-    let e = x.next;
-    let m = x.forms;
-    let d = x.cells;
-    match forms::read_mark(s, e, b';') {
-        MarkRead::No(number, place) => FormRead::No(number, place),
-        MarkRead::Got(next) => FormRead::Got(Upto {
-            next,
-            forms: m,
-            cells: d,
-        }),
-    }
+    let a = forms::read_mark(s, from.next, b'=')?;
+    let x = forms::read_form(s, Upto { next: a, ..from }, language::MARK_LIMIT, t, c)?;
+    let next = forms::read_mark(s, x.next, b';')?;
+    Ok(Upto { next, ..x })
 }
 
 // Writes record k of the table of definitions: a packed name, its body's record and its place.
@@ -45,62 +30,59 @@ fn put_definition(d: &mut [u32], k: usize, name: u64, root: usize, place: usize)
     tables::put_record(
         d,
         k,
-        (name % 4294967296) as u32,
-        (name / 4294967296) as u32,
+        tables::low(name),
+        tables::high(name),
         root as u32,
         place as u32,
     );
 }
 
-// The definition whose name is at p, as record k; its body's records from n on.
+// The definition whose name is at the place that `from` says, as record k.
 fn read_definition(
     s: &[u8],
-    p: usize,
+    from: Upto,
     t: &mut [u32],
-    n: usize,
     c: &mut [u32],
-    used: u32,
     d: &mut [u32],
     k: usize,
-) -> FormRead
-    requires { Ready s.now p n used }
-    ensures { PlacedMet n used k t.old c.old d.old result t.new c.new d.new (placed_at s.now p) }
+) -> Result<Upto, RefusedText>
+    requires { Ready s.now from.next from.forms from.cells }
+    ensures { PlacedMet from.forms from.cells k t.old c.old d.old result t.new c.new d.new (placed_at s.now from.next) }
 {
-    let size = lexer::size_at(s, p);
-    let name = match lexer::judge_name(s, p, size) {
-        NameJudged::Not(number) => return FormRead::No(number, p),
-        NameJudged::Is(name) => name,
-    };
-    match read_body(s, p + size, t, n, c, used) {
-        FormRead::No(number, place) => FormRead::No(number, place),
-        FormRead::Got(x) => {
-            put_definition(d, k, name, n, p);
-            FormRead::Got(x)
-        }
-    }
+    let p = from.next;
+    let end = p + lexer::size_at(s, p);
+    let name = lexer::judge_name(&s[p..end]).map_err(|refusal| RefusedText { refusal, place: p })?;
+    let x = read_body(s, Upto { next: end, ..from }, t, c)?;
+    put_definition(d, k, name, from.forms, p);
+    Ok(x)
 }
 
 // Every definition of the text, up to its end.
-fn read_definitions(s: &[u8], t: &mut [u32], c: &mut [u32], d: &mut [u32]) -> DefinitionsRead
+fn read_definitions(
+    s: &[u8],
+    t: &mut [u32],
+    c: &mut [u32],
+    d: &mut [u32],
+) -> Result<ProgramRead, RefusedText>
     requires { length s.now ≤ program_limit }
     ensures { DefinitionsMet t.old c.old d.old result t.new c.new d.new (definitions_at s.now 0) }
 {
-    let mut at = 0;
-    let mut n = 0;
-    let mut used: u32 = 0;
+    let mut upto = Upto {
+        next: 0,
+        forms: 0,
+        cells: 0,
+    };
     let mut k = 0;
     loop {
-        let p = lexer::skip_blanks(s, at);
-        if p == s.len() {
-            return DefinitionsRead::Got(k, n, used);
+        let next = lexer::skip_blanks(s, upto.next);
+        if next == s.len() {
+            return Ok(ProgramRead {
+                definitions: k,
+                forms: upto.forms,
+                cells: upto.cells,
+            });
         }
-        let x = match read_definition(s, p, t, n, c, used, d, k) {
-            FormRead::No(number, place) => return DefinitionsRead::No(number, place),
-            FormRead::Got(x) => x,
-        };
-        at = x.next;
-        n = x.forms;
-        used = x.cells;
+        upto = read_definition(s, Upto { next, ..upto }, t, c, d, k)?;
         k += 1;
     }
 }
@@ -112,49 +94,55 @@ fn is_earlier(d: &[u32], i: usize) -> bool
 {
     let lo = tables::at(d, i * 4);
     let hi = tables::at(d, i * 4 + 1);
-    let mut j = 0;
-    while j < i {
+    for j in 0..i {
         if formtable::has_name(d, j as u32, lo, hi) {
             return true;
         }
-        j += 1;
     }
     false
 }
 
-// The place of the first of n names that an earlier definition has.
-fn find_twice(d: &[u32], n: usize) -> TwiceRead
+// The place of the first of n names that an earlier definition has, if any has.
+fn find_twice(d: &[u32], n: usize) -> Option<usize>
     requires { n ≤ definition_limit }
     ensures { TwiceMet d.now n result }
 {
-    let mut i = 0;
-    while i < n {
+    for i in 0..n {
         if is_earlier(d, i) {
-            return TwiceRead::At(tables::at(d, i * 4 + 3) as usize);
+            return Some(tables::at(d, i * 4 + 3) as usize);
         }
-        i += 1;
     }
-    TwiceRead::Nowhere
+    None
 }
 
 // A whole program: its forms in `t`, its constants in the cells `c`, its definitions in `d`.
-pub fn read_program(s: &[u8], t: &mut [u32], c: &mut [u32], d: &mut [u32]) -> ProgramRead
+pub fn read_program(
+    s: &[u8],
+    t: &mut [u32],
+    c: &mut [u32],
+    d: &mut [u32],
+) -> Result<ProgramRead, RefusedText>
     requires { (length s.now ≤ program_limit) × (length t.old ≡ form_table_size) × (length d.old ≡ 4 * definition_limit) }
     ensures { ProgramMet s.now t.old c.old d.old result t.new c.new d.new (read_program s.now) }
 {
-    match read_definitions(s, t, c, d) {
-        DefinitionsRead::No(number, place) => ProgramRead::No(number, place),
-        DefinitionsRead::Got(k, n, used) => {
-            if language::FORM_LIMIT < n {
-                return ProgramRead::No(language::TOO_MANY, 0);
-            }
-            if language::DEFINITION_LIMIT < k {
-                return ProgramRead::No(language::TOO_MANY, 0);
-            }
-            match find_twice(d, k) {
-                TwiceRead::At(place) => ProgramRead::No(language::NAME_TWICE, place),
-                TwiceRead::Nowhere => ProgramRead::Got(k, n, used),
-            }
-        }
+    let read = read_definitions(s, t, c, d)?;
+    if language::FORM_LIMIT < read.forms {
+        return Err(RefusedText {
+            refusal: Refusal::TooMany,
+            place: 0,
+        });
+    }
+    if language::DEFINITION_LIMIT < read.definitions {
+        return Err(RefusedText {
+            refusal: Refusal::TooMany,
+            place: 0,
+        });
+    }
+    match find_twice(d, read.definitions) {
+        Some(place) => Err(RefusedText {
+            refusal: Refusal::NameTwice,
+            place,
+        }),
+        None => Ok(read),
     }
 }

@@ -5,23 +5,10 @@ mod definitions;
 
 pub use definitions::read_program;
 
-// Definitions were read: how many they are, their forms and the cells of their constants; or a refusal's number and place.
-#[derive(Clone, Copy)]
-pub enum DefinitionsRead {
-    Got(usize, usize, u32),
-    No(u32, usize),
-}
-
-// The place of the first name that is defined twice, if any is.
-#[derive(Clone, Copy)]
-pub enum TwiceRead {
-    At(usize),
-    Nowhere,
-}
-
-// A program was read: how many definitions, forms and cells of constants it has; or a refusal's number and place.
-#[derive(Clone, Copy)]
-pub enum ProgramRead {
-    Got(usize, usize, u32),
-    No(u32, usize),
+// What was read: how many definitions there are, how many forms they have, and how many cells their constants take.
+#[derive(Clone, Copy, Debug, PartialEq, Eq)]
+pub struct ProgramRead {
+    pub definitions: usize,
+    pub forms: usize,
+    pub cells: u32,
 }

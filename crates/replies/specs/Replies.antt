@@ -1,5 +1,5 @@
 -- What is replied: to an input, to three lines, and to a call whose budgets are read.
-use Rattle.std.specs.Prelude.{ℕ, ◌+◌, ◌*◌, ◌≤◌, ◌≡◌, List, ◌++◌, length, take, drop}
+use Rattle.std.specs.Prelude.{ℕ, ◌*◌, ◌≤◌, ◌≡◌, List, ◌++◌, length, take, drop}
 use Rattle.std.proofs.Math.Option.{some}
 use Rattle.groundwork.specs.Options.{on_some}
 use Rattle.language.specs.Numbers.{cell_limit, cell_table_size}
@@ -29,10 +29,3 @@ lines_reply first program object = reply (on_some (budgets_in first) (λ b. some
 pub record CellsLent (cells r : ℕ) : Type 0 where
   pub four : cells ≤ cell_limit → r ≡ 4 * cells
   pub fits : r ≤ cell_table_size cell_limit
-
--- three lines end at these places of the input, and the reply has room
-pub record LinesEnd (input : List ℕ) (a b c : ℕ) (out : List ℕ) : Type 0 where
-  pub second : a + 1 ≤ b
-  pub third : b + 1 ≤ c
-  pub within : c + 1 ≤ length input
-  pub room : 16451 ≤ length out

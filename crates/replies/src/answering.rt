@@ -1,11 +1,10 @@
 // From the bytes of an input to the bytes of the reply.
-ghost use Rattle.std.specs.Prelude.{◌+◌, ◌≤◌, length};
-ghost use Rattle.std.proofs.Math.Seq.{slice};
+ghost use Rattle.std.specs.Prelude.{◌≤◌, length};
 ghost use Rattle.call_lines.specs.Printing.{Printed};
-ghost use Rattle.replies.specs.Replies.{Replied, CellsLent, LinesEnd, call_reply, lines_reply};
+ghost use Rattle.replies.specs.Replies.{Replied, CellsLent, call_reply, lines_reply};
 
 use super::buffers;
-use call_lines::{Budgets, Lines};
+use call_lines::Lines;
 use language::Meter;
 
 // The most bytes of an input.
@@ -27,9 +26,9 @@ fn answer_call(program: &[u8], object: &[u8], m: Meter, out: &mut [u8]) -> usize
     requires { 16451 ≤ length out.old }
     ensures { Printed (call_reply program.now object.now m) 16451 out.old 0 result out.new }
 {
-    let mut forms = buffers::form_table();
-    let mut table = buffers::cell_table();
-    let mut output = buffers::output();
+    let mut forms = buffers::zeroed::<u32, { language::FORM_TABLE_SIZE }>();
+    let mut table = buffers::zeroed::<u32, { language::CELL_TABLE_SIZE }>();
+    let mut output = buffers::zeroed::<u8, { language::WRITTEN_LIMIT }>();
     let n = cells_lent(m.cells);
     let a = nattglod::run(
         program,
@@ -44,18 +43,15 @@ fn answer_call(program: &[u8], object: &[u8], m: Meter, out: &mut [u8]) -> usize
     call_lines::print_answer(out, a, &output)
 }
 
-// The three lines end at `first`, `second` and `third`: budgets, program, object.
-fn answer_lines(s: &[u8], first: usize, second: usize, third: usize, out: &mut [u8]) -> usize
-    requires { LinesEnd s.now first second third out.old }
-    ensures { Printed (lines_reply (slice 0 first s.now) (slice (first + 1) second s.now) (slice (second + 1) third s.now)) 16451 out.old 0 result out.new }
+// Three lines: budgets, program, object.
+fn answer_lines(l: Lines, out: &mut [u8]) -> usize
+    requires { 16451 ≤ length out.old }
+    ensures { Printed (lines_reply l.entry.budgets.now l.entry.program.now l.entry.object.now) 16451 out.old 0 result out.new }
 {
-    let m = match call_lines::read_budgets(s, first) {
-        Budgets::Not => return call_lines::print_other(out),
-        Budgets::Are(m) => m,
+    let Some(m) = call_lines::read_budgets(l.budgets) else {
+        return call_lines::print_other(out);
     };
-    let program = first + 1;
-    let object = second + 1;
-    answer_call(&s[program..second], &s[object..third], m, out)
+    answer_call(l.program, l.object, m, out)
 }
 
 // The reply to the input stands in the first r bytes; behind it `out` is as it was.
@@ -66,7 +62,7 @@ pub fn answer_input(s: &[u8], out: &mut [u8; buffers::REPLY_SIZE]) -> usize
         return call_lines::print_other(out);
     }
     match call_lines::cut_lines(s) {
-        Lines::Other => call_lines::print_other(out),
-        Lines::Three(first, second, third) => answer_lines(s, first, second, third, out),
+        Some(l) => answer_lines(l, out),
+        None => call_lines::print_other(out),
     }
 }

@@ -20,23 +20,20 @@ pub as_sequence : {C : List ℕ} {n : ℕ} {s : Val} (ys : Objs) → n < 4294967
 as_sequence {s = s} nil h (rep_nil t w) = val_same s (sequence_val (s.word % 4294967296) 0) t (omega arith)
 as_sequence {s = s} (y :: ys) h (rep_more t w l a b) = val_same s (sequence_val (s.word % 4294967296) (suc (length_of ys))) t (omega arith)
 
-pub before_far : {C C' : List ℕ} {p : ℕ} {x s r : Val} → 4294967294 < p → PutBefore C p x s r C'
-before_far h = record { means = λ y ys e rx rs. absurd (omega (arith, e.far)) }
-
-pub before_long : {C C' : List ℕ} {p n : ℕ} {x s r : Val} → Sized s n → 4294967294 < n → PutBefore C p x s r C'
+pub before_long : {C C' : List ℕ} {p n : ℕ} {x s r : Val} → Sized s n → (n + 1 < 4294967296 → ⊥) → PutBefore C p x s r C'
 before_long {C} {p = p} z h = record { means = λ y ys e rx rs. absurd (omega (arith, e.far, rep_length ys rs, z.means C p ys (omega (arith, e.far)) rs)) }
 
-pub before_is : {C C' : List ℕ} {p n l : ℕ} {x s r : Val} → Sized s n → l ≡ s.word % 4294967296 → C' ≡ cell_put C p x l → r ≡ sequence_val (p + 1) (n + 1) → PutBefore C p x s r C'
-before_is {C} {C'} {p} {n} {l} {x} {s} {r} z f g e = record { means = go }
+pub before_is : {C C' : List ℕ} {p n l q m : ℕ} {x s r : Val} → Sized s n → l ≡ s.word % 4294967296 → C' ≡ cell_put C p x l → q ≡ p + 1 → m ≡ n + 1 → r ≡ sequence_val q m → PutBefore C p x s r C'
+before_is {C} {C'} {p} {n} {l} {q} {m} {x} {s} {r} z f g a b e = record { means = go }
   where
     go : (y : Obj) (ys : Objs) → Space C p 1 → Rep C p x y → Rep C p s (seq ys) → NewSequence C p 1 (y :: ys) r C'
     go y ys h rx rs =
         let u : p < 4294967296 = omega (arith, h.far) in
         let k : n ≡ length_of ys = z.means C p ys u rs in
         let i : s ≡ sequence_val l (length_of ys) = rw f (as_sequence ys u rs) in
-        let j : n + 1 ≡ suc (length_of ys) = omega arith in
+        let j : m ≡ suc (length_of ys) = omega arith in
         record {
-          rep = rw (e, j, g) (rep_new l ys (omega (arith, h.long)) rx (rw i at rs));
+          rep = rw (e, a, j, g) (rep_new l ys (omega (arith, h.long)) rx (rw i at rs));
           same = rw g (cell_same C p x l);
         }
 
@@ -47,13 +44,6 @@ pub nil_rep : {C : List ℕ} {n : ℕ} {v : Val} → v ≡ sequence_val 0 0 → 
 nil_rep {C} {n} e = rw e (rep_nil refl refl)
 
 -- ---- without the last place
-pub last_none : {C : List ℕ} {v : Val} {n p : ℕ} → n ≡ 0 → Rearranged all_but_last C v n p v C
-last_none {C} {v} {n} {p} z = record { means = go }
-  where
-    go : (xs : Objs) → length_of xs ≡ n → Space C p (length_of (all_but_last xs)) → Rep C p v (seq xs) → NewSequence C p (length_of (all_but_last xs)) (all_but_last xs) v C
-    go nil e s r = record { rep = rep_ext (same_refl C p) (omega arith) r; same = same_refl C p }
-    go (x :: xs) e s r = absurd (omega arith)
-
 pub last_less : {C C' : List ℕ} {v o r : Val} {n p : ℕ} → (n ≡ 0 → ⊥) → o ≡ sequence_val 0 0 → Prepended C v (n - 1) p o r C' → Rearranged all_but_last C v n p r C'
 last_less {C} {C'} {v} {o} {r} {n} {p} z f g = record { means = go }
   where
@@ -66,14 +56,7 @@ last_less {C} {C'} {v} {o} {r} {n} {p} z f g = record { means = go }
         rw j (stands_as (append-nil (take_objs (length_of xs) (x :: xs)) ∙ take_but_last x xs) (h.means (x :: xs) nil (omega arith) (rw j at s) rv (nil_rep f)))
 
 -- ---- the first place behind the others
-pub left_none : {C : List ℕ} {v : Val} {n p : ℕ} → n ≡ 0 → Rearranged to_left C v n p v C
-left_none {C} {v} {n} {p} z = record { means = go }
-  where
-    go : (xs : Objs) → length_of xs ≡ n → Space C p (length_of (to_left xs)) → Rep C p v (seq xs) → NewSequence C p (length_of (to_left xs)) (to_left xs) v C
-    go nil e s r = record { rep = rep_ext (same_refl C p) (omega arith) r; same = same_refl C p }
-    go (x :: xs) e s r = absurd (omega arith)
-
-pub left_far : {C C' : List ℕ} {v r : Val} {n p : ℕ} → (n ≡ 0 → ⊥) → p ≡ 4294967295 → Rearranged to_left C v n p r C'
+pub left_far : {C C' : List ℕ} {v r : Val} {n p : ℕ} → (n ≡ 0 → ⊥) → 4294967295 ≤ p → Rearranged to_left C v n p r C'
 left_far {C} {C'} {v} {r} {n} {p} z h = record { means = go }
   where
     go : (xs : Objs) → length_of xs ≡ n → Space C p (length_of (to_left xs)) → Rep C p v (seq xs) → NewSequence C p (length_of (to_left xs)) (to_left xs) r C'
@@ -97,14 +80,7 @@ left_is {C} {C₁} {C₂} {v} {x} {others} {o} {last} {r} {n} {p} z h t f b e₁
         record { rep = rw (← a) (subst (λ (t : Objs). Rep C₂ (p + 1 + length_of ys) r (seq t)) (ap (λ (q : Objs). q +++ (y :: nil)) w) k.rep); same = same_trans (omega arith) st.same k.same }
 
 -- ---- the last place before the others
-pub right_none : {C : List ℕ} {v : Val} {n p : ℕ} → n ≡ 0 → Rearranged to_right C v n p v C
-right_none {C} {v} {n} {p} z = record { means = go }
-  where
-    go : (xs : Objs) → length_of xs ≡ n → Space C p (length_of (to_right xs)) → Rep C p v (seq xs) → NewSequence C p (length_of (to_right xs)) (to_right xs) v C
-    go nil e s r = record { rep = rep_ext (same_refl C p) (omega arith) r; same = same_refl C p }
-    go (x :: xs) e s r = absurd (omega arith)
-
-pub right_far : {C C' : List ℕ} {v r : Val} {n p : ℕ} → (n ≡ 0 → ⊥) → 4294967295 - p < n → Rearranged to_right C v n p r C'
+pub right_far : {C C' : List ℕ} {v r : Val} {n p : ℕ} → (n ≡ 0 → ⊥) → 4294967296 ≤ p + n → Rearranged to_right C v n p r C'
 right_far {C} {C'} {v} {r} {n} {p} z h = record { means = go }
   where
     go : (xs : Objs) → length_of xs ≡ n → Space C p (length_of (to_right xs)) → Rep C p v (seq xs) → NewSequence C p (length_of (to_right xs)) (to_right xs) r C'
@@ -153,11 +129,11 @@ length_onto (x :: xs) ys = length_onto xs (x :: ys) ∙ (omega arith)
 pub length_turned : (xs : Objs) → length_of (turned xs) ≡ length_of xs
 length_turned xs = length_onto xs nil ∙ (omega arith)
 
-pub turn_far : {C C' : List ℕ} {v r : Val} {n p : ℕ} → 4294967295 - p < n → Rearranged turned C v n p r C'
+pub turn_far : {C C' : List ℕ} {v r : Val} {n p : ℕ} → (p + n < 4294967296 → ⊥) → Rearranged turned C v n p r C'
 turn_far h = record { means = λ xs e s rv. absurd (omega (arith, s.far, length_turned xs)) }
 
-pub turn_start : {C : List ℕ} {n p : ℕ} {v made : Val} → n ≤ 4294967295 - p → p < 4294967296 → made ≡ sequence_val 0 0 → Turning C v n p C v made n p
-turn_start {C} {n} {p} h u f = record { sum = refl; most = omega arith; fits = omega arith; len = refl; means = λ xs e s rv. record { ahead = xs; done = nil; long = e; still = rv; rep = nil_rep f; same = same_refl C p; whole = refl } }
+pub turn_start : {C : List ℕ} {n p end : ℕ} {v made : Val} → p + n < 4294967296 → end ≡ p + n → made ≡ sequence_val 0 0 → Turning C v n p C v made (end - p) p
+turn_start {C} {n} {p} {end} h u f = record { sum = omega arith; most = omega arith; fits = h; len = refl; means = λ xs e s rv. record { ahead = xs; done = nil; long = omega arith; still = rv; rep = nil_rep f; same = same_refl C p; whole = refl } }
 
 turn_now : {C₀ C C' : List ℕ} {p free left : ℕ} {rest made x rest₁ r : Val} {xs : Objs} (q : ℕ) (ahead : Objs) → left ≡ suc q → length_of ahead ≡ left → free < 4294967296 → p ≤ free → Space C free 1 → Headed C rest x → Tailed C rest rest₁ → PutBefore C free x made r C' → Rep C free rest (seq ahead) → (done : Objs) → Rep C free made (seq done) → Same C₀ C p → turned_onto ahead done ≡ turned xs → TurnNow C₀ p xs C' q rest₁ r (free + 1)
 turn_now q nil z e u l sp h t b ra done rd s w = absurd (omega arith)
@@ -173,15 +149,15 @@ turn_step {C₀} {C} {C'} {n} {p} {left} {free} {v} {rest} {made} {x} {rest₁} 
         let m = g.means xs k sp rv in
         turn_now q m.ahead z m.long (omega (arith, g.sum, g.fits)) (omega (arith, g.sum, g.most)) (record { far = omega (arith, g.sum, g.fits); long = omega (arith, g.sum, g.len, sp.long) }) h t b m.still m.done m.rep m.same m.whole
 
-pub turn_next : {C₀ C C' : List ℕ} {n p left free : ℕ} {v rest made x rest₁ r : Val} → 0 < left → Turning C₀ v n p C rest made left free → Headed C rest x → Tailed C rest rest₁ → PutBefore C free x made r C' → length C' ≡ length C → Turning C₀ v n p C' rest₁ r (left - 1) (free + 1)
-turn_next {left = left} k g h t b e = turn_step (left - 1) (omega arith) g h t b e
+pub turn_next : {C₀ C C' : List ℕ} {n p end free : ℕ} {v rest made x rest₁ r : Val} → free < end → Turning C₀ v n p C rest made (end - free) free → Headed C rest x → Tailed C rest rest₁ → PutBefore C free x made r C' → length C' ≡ length C → Turning C₀ v n p C' rest₁ r (end - (free + 1)) (free + 1)
+turn_next {end = end} {free = free} k g h t b e = turn_step (end - (free + 1)) (omega arith) g h t b e
 
 turn_done : (xs : Objs) {C : List ℕ} {free : ℕ} {r : Val} (ahead : Objs) {done : Objs} → length_of ahead ≡ 0 → turned_onto ahead done ≡ turned xs → Rep C free r (seq done) → Rep C free r (seq (turned xs))
 turn_done xs nil e w r = rw (← w) r
 turn_done xs (x :: ahead) e w r = absurd (omega arith)
 
-pub turn_end : {C₀ C : List ℕ} {n p left free : ℕ} {v rest made : Val} → left ≤ 0 → Turning C₀ v n p C rest made left free → Rearranged turned C₀ v n p made C
-turn_end {C₀} {C} {n} {p} {left} {free} {v} {rest} {made} h g = record { means = go }
+pub turn_end : {C₀ C : List ℕ} {n p end free : ℕ} {v rest made : Val} → end ≤ free → Turning C₀ v n p C rest made (end - free) free → Rearranged turned C₀ v n p made C
+turn_end {C₀} {C} {n} {p} {end} {free} {v} {rest} {made} h g = record { means = go }
   where
     go : (xs : Objs) → length_of xs ≡ n → Space C₀ p (length_of (turned xs)) → Rep C₀ p v (seq xs) → NewSequence C₀ p (length_of (turned xs)) (turned xs) made C
     go xs e s rv =

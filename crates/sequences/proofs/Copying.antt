@@ -1,5 +1,5 @@
 -- Places copied from the first to the last: those before place q are there, and the rest is ahead.
-use Prim.Native.Nat.{ℕ, zero, suc, ◌+◌, ◌-◌, ◌*◌, ◌%◌, ◌≤◌, ◌<◌}
+use Prim.Native.Nat.{ℕ, zero, suc, ◌+◌, ◌*◌, ◌%◌, ◌≤◌, ◌<◌}
 use mathlib.Core.Path.{◌≡◌, refl, ◌∙◌}
 use mathlib.Core.Bool.{Bool, true, false}
 use mathlib.Core.List.{List}
@@ -14,21 +14,18 @@ use Rattle.cells.specs.Cells.{Rep, cell_put}
 use Rattle.cells.specs.Parts.{drop_objs, Headed, Tailed}
 use Rattle.cells.proofs.Reps.{same_refl, same_fewer, same_trans, rep_ext, cell_same, length_cell}
 use Rattle.sequences.specs.Making.{Space}
-use Rattle.sequences.specs.Lines.{link_over, Place, Line, Copies, CopiedLine}
+use Rattle.sequences.specs.Lines.{link_over, Place, Line, Copies}
 use Rattle.cells.proofs.Places.{drop_first}
 use Rattle.sequences.proofs.Segments.{place_ext, place_new}
 
-pub link_is : (p d : ℕ) {r : ℕ} → (d ≡ 0 → ⊥) → r ≡ (p + d + 1) % 4294967296 → r ≡ link_over p d
+pub link_is : (p d : ℕ) → (d ≡ 0 → ⊥) → ((p + d) % 4294967296 + 1) % 4294967296 ≡ link_over p d
 unfolding link_over
-link_is p zero h e = absurd (h refl)
-link_is p (suc d) h e = e
+link_is p zero h = absurd (h refl)
+link_is p (suc d) h = omega arith
 
 pub link_none : (p d : ℕ) → d ≡ 0 → 0 ≡ link_over p d
 unfolding link_over
 link_none p d z = rw z
-
-pub put_is : (C : List ℕ) {C' : List ℕ} (p d : ℕ) (v : Val) {l : ℕ} → l ≡ link_over p d → C' ≡ cell_put C p v l → C' ≡ cell_put C p v (link_over p d)
-put_is C p d v e f = rw (← e) f
 
 -- a new cell at the end of a line
 line_next : {C : List ℕ} {p d q : ℕ} {xs : Objs} {x : Val} → (p + q) * 4 + 4 ≤ length C → Rep C p x (nth_obj xs q) → Line C p d xs q → Line (cell_put C (p + q) x (link_over (p + q) d)) p d xs (q + 1)
@@ -48,12 +45,9 @@ pub record Copying (C₀ : List ℕ) (v : Val) (n p d : ℕ) (C : List ℕ) (ahe
   pub len : length C ≡ length C₀
   pub means : (xs : Objs) → n ≤ length_of xs → Space C₀ p (n + d) → Rep C₀ p v (seq xs) → Copies C₀ p d xs q ahead C
 
-pub copy_far : {C C' : List ℕ} {v r : Val} {n p d : ℕ} → 4294967295 - p < n → CopiedLine C v n p d r C'
-copy_far h = record { means = λ xs l s rv. absurd (omega (arith, s.far)) }
-
-pub copy_start : {C : List ℕ} {v : Val} {n p d : ℕ} → n ≤ 4294967295 - p → p < 4294967296 → Copying C v n p d C v 0
+pub copy_start : {C : List ℕ} {v : Val} {n p d : ℕ} → p + n < 4294967296 → Copying C v n p d C v 0
 unfolding drop_objs
-copy_start {C} {p = p} h u = record { most = omega arith; fits = omega arith; len = refl; means = λ xs l s rv. record { line = record { place = λ j z. absurd (omega arith) }; rest = rv; same = same_refl C p } }
+copy_start {C} {p = p} h = record { most = omega arith; fits = h; len = refl; means = λ xs l s rv. record { line = record { place = λ j z. absurd (omega arith) }; rest = rv; same = same_refl C p } }
 
 copy_step : {C₀ C : List ℕ} {v ahead x rest : Val} {n p d q : ℕ} → q < n → Copying C₀ v n p d C ahead q → Headed C ahead x → Tailed C ahead rest → Copying C₀ v n p d (cell_put C (p + q) x (link_over (p + q) d)) rest (q + 1)
 copy_step {C₀} {C} {v} {ahead} {x} {rest} {n} {p} {d} {q} h g hd tl = record { most = omega arith; fits = g.fits; len = length_cell C (p + q) x (link_over (p + q) d) ∙ g.len; means = go }
@@ -73,8 +67,3 @@ copy_step {C₀} {C} {v} {ahead} {x} {rest} {n} {p} {d} {q} h g hd tl = record {
 
 pub copy_next : {C₀ C C' : List ℕ} {v ahead x rest : Val} {n p d q : ℕ} → q < n → Copying C₀ v n p d C ahead q → Headed C ahead x → Tailed C ahead rest → C' ≡ cell_put C (p + q) x (link_over (p + q) d) → Copying C₀ v n p d C' rest (q + 1)
 copy_next h g hd tl e = rw e (copy_step h g hd tl)
-
-pub copy_end : {C₀ C : List ℕ} {v ahead : Val} {n p d q : ℕ} → n ≤ q → Copying C₀ v n p d C ahead q → CopiedLine C₀ v n p d ahead C
-copy_end {n = n} {q = q} h g =
-    let e : q ≡ n = omega (arith, g.most) in
-    record { means = λ xs l s rv. rw e at (g.means xs l s rv) }

@@ -17,10 +17,12 @@ pub begun_none : (first j n : ℕ) {r : Val} → n ≡ 0 → r ≡ sequence_val 
 unfolding sequence_from
 begun_none first j n z e = rw (z, e)
 
-pub begun_is : (first j n : ℕ) {r : Val} → (n ≡ 0 → ⊥) → r ≡ sequence_val ((first + j + 1) % 4294967296) n → r ≡ sequence_from (first + j) n
+pub begun_is : (first j n : ℕ) {r : Val} → (n ≡ 0 → ⊥) → r ≡ sequence_val (((first + j) % 4294967296 + 1) % 4294967296) n → r ≡ sequence_from (first + j) n
 unfolding sequence_from
 begun_is first j zero h e = absurd (h refl)
-begun_is first j (suc n) h e = e
+begun_is first j (suc n) h e =
+    let o : ((first + j) % 4294967296 + 1) % 4294967296 ≡ (first + j + 1) % 4294967296 = omega arith in
+    rw o at e
 
 -- the first `left` of xs are still to be made
 pub record ListNow (C₀ : List ℕ) (p : ℕ) (xs : Objs) (C : List ℕ) (left : ℕ) (s : Val) (free : ℕ) : Type 0 where
@@ -47,11 +49,8 @@ pub record Listing (C₀ : List ℕ) (first n w p : ℕ) (C : List ℕ) (s : Val
   pub len : length C ≡ length C₀
   pub means : (xs : Objs) → length_of xs ≡ w → Space C₀ p w → ((j : ℕ) → j < w → Rep C₀ p (sequence_from (first + j) n) (nth_obj xs j)) → ListNow C₀ p xs C left s free
 
-pub list_far : {C C' : List ℕ} {first n w p : ℕ} {r : Val} → 4294967295 - p < w → ColumnsListed C first n w p r C'
-list_far h = record { means = λ xs e sp rs. absurd (omega (arith, sp.far)) }
-
-pub list_start : {C : List ℕ} {first n w p : ℕ} {s : Val} → w ≤ 4294967295 - p → p < 4294967296 → s ≡ sequence_val 0 0 → Listing C first n w p C s w p
-list_start {C} {w = w} {p = p} h u f = record { sum = refl; most = omega arith; fits = omega arith; len = refl; means = λ xs e sp rs. record { done = nil; rep = nil_rep f; same = same_refl C p; whole = append-nil (take_objs w xs) ∙ take_all w xs (omega arith) } }
+pub list_start : {C : List ℕ} {first n w p : ℕ} {s : Val} → p + w < 4294967296 → s ≡ sequence_val 0 0 → Listing C first n w p C s w p
+list_start {C} {w = w} {p = p} h f = record { sum = refl; most = omega arith; fits = h; len = refl; means = λ xs e sp rs. record { done = nil; rep = nil_rep f; same = same_refl C p; whole = append-nil (take_objs w xs) ∙ take_all w xs (omega arith) } }
 
 list_step : {C₀ C C' : List ℕ} {first n w p left free : ℕ} {s x r : Val} (q : ℕ) → left ≡ suc q → Listing C₀ first n w p C s left free → x ≡ sequence_from (first + q) n → PutBefore C free x s r C' → length C' ≡ length C → Listing C₀ first n w p C' r q (free + 1)
 list_step {C₀} {C} {C'} {first} {n} {w} {p} {left} {free} {s} {x} {r} q z g f b e = record { sum = omega (arith, g.sum); most = omega (arith, g.most); fits = g.fits; len = e ∙ g.len; means = go }

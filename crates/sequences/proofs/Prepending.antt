@@ -21,10 +21,7 @@ pub prepend_none : {C : List ℕ} {n p : ℕ} {v rest : Val} → n ≡ 0 → Pre
 unfolding take_objs
 prepend_none {C} {n} {p} z = rw z (record { means = λ xs ys l e rv rr. record { rep = rep_ext (same_refl C p) (omega arith) rr; same = same_refl C p } })
 
-pub prepend_far : {C C' : List ℕ} {n p : ℕ} {v rest r : Val} → 4294967295 - p < n → Prepended C v n p rest r C'
-prepend_far h = record { means = λ xs ys l e rv rr. absurd (omega (arith, e.far)) }
-
-pub prepend_long : {C C' : List ℕ} {n p m : ℕ} {v rest r : Val} → Sized rest m → 4294967295 - n < m → Prepended C v n p rest r C'
+pub prepend_long : {C C' : List ℕ} {n p m : ℕ} {v rest r : Val} → Sized rest m → (m + n < 4294967296 → ⊥) → Prepended C v n p rest r C'
 prepend_long {C} {p = p} z h = record { means = λ xs ys l e rv rr. absurd (omega (arith, e.far, rep_length ys rr, z.means C p ys (omega (arith, e.far)) rr)) }
 
 -- all places but the last are in the line, the last is put behind them
@@ -49,8 +46,9 @@ prepend_as {C} {C₁} {p} {m} {l} {v} {rest} {behind} {x} q z cp e hd f = record
           same = same_trans (omega arith) k.same s;
         }
 
-pub prepend_is : {C C₁ C₂ : List ℕ} {n p m l : ℕ} {v rest behind x r : Val} → (n ≡ 0 → ⊥) → Sized rest m → CopiedLine C v (n - 1) p 1 behind C₁ → length C₁ ≡ length C → Headed C₁ behind x → l ≡ rest.word % 4294967296 → C₂ ≡ cell_put C₁ (p + (n - 1)) x l → r ≡ sequence_val (p + 1) (n + m) → Prepended C v n p rest r C₂
-prepend_is {n = zero} h z cp e hd f g i = absurd (h refl)
-prepend_is {n = suc q} h z cp e hd f g i =
+pub prepend_is : {C C₁ C₂ : List ℕ} {n p m l all : ℕ} {v rest behind x r : Val} → (n ≡ 0 → ⊥) → Sized rest m → CopiedLine C v (n - 1) p 1 behind C₁ → length C₁ ≡ length C → Headed C₁ behind x → l ≡ rest.word % 4294967296 → C₂ ≡ cell_put C₁ (p + (n - 1)) x l → all ≡ m + n → r ≡ sequence_val (p + 1) all → Prepended C v n p rest r C₂
+prepend_is {n = zero} h z cp e hd f g a i = absurd (h refl)
+prepend_is {n = suc q} {m = m} {all = all} h z cp e hd f g a i =
     let k : suc q - 1 ≡ q = omega arith in
-    rw (i, g, k) (prepend_as q z (rw k at cp) e hd f)
+    let o : all ≡ suc q + m = omega arith in
+    rw (i, o, g, k) (prepend_as q z (rw k at cp) e hd f)

@@ -22,9 +22,6 @@ joined_first e g = record { means = λ x y s ra rb. rw e (g.means x y s.far (ome
 pub joined_second : {C C' : List ℕ} {p : ℕ} {a b r : Val} {first : Bool} → first ≡ false → Paired C p b a r C' → Joined C p a b first r C'
 joined_second e g = record { means = λ x y s ra rb. rw e (g.means y x s.far (omega (arith, s.long)) rb ra) }
 
-pub couple_far : {C C' : List ℕ} {p next : ℕ} {a b : Val} {first : Bool} → 4294967293 < p → Coupled C p a b first next C'
-couple_far h = record { means = λ x y s ra rb. absurd (omega (arith, s.far)) }
-
 pub couple_is : {C C₁ C₂ : List ℕ} {p next : ℕ} {a b r : Val} {first : Bool} → Joined C p a b first r C₁ → length C₁ ≡ length C → C₂ ≡ cell_put C₁ (p + 2) r next → Coupled C p a b first next C₂
 couple_is {C} {C₁} {C₂} {p} {next} {a} {b} {r} {first} j e f = record { means = go }
   where
@@ -69,14 +66,14 @@ share_long h = record { means = λ x ys e s ra rv. absurd (omega (arith, s.far, 
 pub share_far : {C C' : List ℕ} {a v r : Val} {first : Bool} {n p : ℕ} → 4294967295 - p < 3 * n → Shared C a v first n p r C'
 share_far h = record { means = λ x ys e s ra rv. absurd (omega (arith, s.far)) }
 
-pub share_start : {C : List ℕ} {a v : Val} {first : Bool} {n p : ℕ} → (n ≡ 0 → ⊥) → 3 * n ≤ 4294967295 - p → p < 4294967296 → Sharing C a v first n p C v n p
+pub share_start : {C : List ℕ} {a v : Val} {first : Bool} {n p left : ℕ} → (n ≡ 0 → ⊥) → p + 3 * n < 4294967296 → left ≡ n → Sharing C a v first n p C v left p
 share_start {C} {first = first} {n = n} {p = p} z h u = record {
   some = omega (arith, z);
   most = omega arith;
-  sum = refl;
-  fits = omega arith;
+  sum = omega arith;
+  fits = h;
   len = refl;
-  means = λ x ys e s ra rv. record { todo = ys; long = e; still = rv; same = same_refl C p; begun = begin C p (p + 3) (sides first x ys) };
+  means = λ x ys e s ra rv. record { todo = ys; long = omega arith; still = rv; same = same_refl C p; begun = begin C p (p + 3) (sides first x ys) };
 }
 
 -- one pair more
@@ -112,17 +109,17 @@ share_step {C₀} {C} {C'} {a} {v} {ahead} {b} {rest} {first} {n} {p} {left} {fr
         let j : free + 6 ≡ free + 3 + 3 = omega arith in
         rw j at (share_one m.todo (m.long ∙ z) (omega (arith, g.sum, g.most)) (record { far = omega (arith, g.sum, g.fits); long = omega (arith, g.sum, g.len, sp.long) }) ra hd tl cp m.still m.same m.begun)
 
-pub share_next : {C₀ C C' : List ℕ} {a v ahead b rest : Val} {first : Bool} {n p left free : ℕ} → 1 < left → Sharing C₀ a v first n p C ahead left free → Headed C ahead b → Tailed C ahead rest → Coupled C free a b first (free + 6) C' → length C' ≡ length C → Sharing C₀ a v first n p C' rest (left - 1) (free + 3)
-share_next {left = left} h g hd tl cp e = share_step (left - 1) (omega arith) (omega arith) g hd tl cp e
+pub share_next : {C₀ C C' : List ℕ} {a v ahead b rest : Val} {first : Bool} {n p i free : ℕ} → i < n → Sharing C₀ a v first n p C ahead (n + 1 - i) free → Headed C ahead b → Tailed C ahead rest → Coupled C free a b first (free + 6) C' → length C' ≡ length C → Sharing C₀ a v first n p C' rest (n + 1 - (i + 1)) (free + 3)
+share_next {n = n} {i = i} h g hd tl cp e = share_step (n + 1 - (i + 1)) (omega arith) (omega arith) g hd tl cp e
 
-pub share_end : {C₀ C C' : List ℕ} {a v ahead b r : Val} {first : Bool} {n p left free : ℕ} → left ≤ 1 → Sharing C₀ a v first n p C ahead left free → Headed C ahead b → Coupled C free a b first 0 C' → r ≡ sequence_val (p + 3) n → Shared C₀ a v first n p r C'
-share_end {C₀} {C} {C'} {a} {v} {ahead} {b} {r} {first} {n} {p} {left} {free} h g hd cp f = record { means = go }
+pub share_end : {C₀ C C' : List ℕ} {a v ahead b r : Val} {first : Bool} {n p i free : ℕ} → n ≤ i → Sharing C₀ a v first n p C ahead (n + 1 - i) free → Headed C ahead b → Coupled C free a b first 0 C' → r ≡ sequence_val (p + 3) n → Shared C₀ a v first n p r C'
+share_end {C₀} {C} {C'} {a} {v} {ahead} {b} {r} {first} {n} {p} {i} {free} h g hd cp f = record { means = go }
   where
     go : (x : Obj) (ys : Objs) → length_of ys ≡ n → Space C₀ p (3 * n) → Rep C₀ p a x → Rep C₀ p v (seq ys) → NewSequence C₀ p (3 * n) (sides first x ys) r C'
     go x ys e sp ra rv =
         let m = g.means x ys e sp ra rv in
         let one : length_of m.todo ≡ 1 = omega (arith, m.long, g.some) in
         let k = share_last m.todo one (omega (arith, g.sum, g.most)) (record { far = omega (arith, g.sum, g.fits, g.some); long = omega (arith, g.sum, g.len, sp.long, g.some) }) ra hd cp m.still m.same m.begun in
-        let i : length_of (sides first x ys) ≡ n = length_sides first x ys ∙ e in
+        let l : length_of (sides first x ys) ≡ n = length_sides first x ys ∙ e in
         let j : free + 3 ≡ p + 3 * n = omega (arith, g.sum, g.some) in
-        record { rep = rw f (rw (i, j) at k.0); same = k.1 }
+        record { rep = rw f (rw (l, j) at k.0); same = k.1 }

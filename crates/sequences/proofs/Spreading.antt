@@ -65,11 +65,11 @@ spread_none {C} {v} {n} {w} {p} z = rw z (record { means = go })
     go nil e a sp rv = record { end = omega arith; column = λ j h. rep_nil refl refl; same = same_refl C p }
     go (r :: rs) e a sp rv = absurd (omega arith)
 
-pub spread_start : {C : List ℕ} {v : Val} {n w p : ℕ} → (n ≡ 0 → ⊥) → Spreading C v n w p C v n p
-spread_start {C} {p = p} z = record {
+pub spread_start : {C : List ℕ} {v : Val} {n w p left : ℕ} → (n ≡ 0 → ⊥) → left ≡ n → Spreading C v n w p C v left p
+spread_start {C} {p = p} z l = record {
   some = omega (arith, z);
   len = refl;
-  means = λ rs e a sp rv. record { todo = rs; long = e; rows = a; still = rv; same = same_refl C p; low = omega arith; sum = refl; begun = λ j h. begin C p (p + j + 1) (column_at j rs) };
+  means = λ rs e a sp rv. record { todo = rs; long = omega arith; rows = a; still = rv; same = same_refl C p; low = omega arith; sum = rw l; begun = λ j h. begin C p (p + j + 1) (column_at j rs) };
 }
 
 -- ---- one row more
@@ -104,10 +104,10 @@ spread_step {w = w} i z g hd tl cp e y = record {
   means = λ rs k a sp rv. let m = g.means rs k a sp rv in spread_now rs i m.todo (m.long ∙ z) m.rows m.low (rw z at m.sum) g.len sp hd tl cp y m.still m.same m.begun;
 }
 
-pub spread_next : {C₀ C C' : List ℕ} {v ahead row rest o : Val} {n w p left free f : ℕ} → 1 < left → Spreading C₀ v n w p C ahead left free → Headed C ahead row → Tailed C ahead rest → CopiedLine C row w free w o C' → length C' ≡ length C → f ≡ (free + w) % 4294967296 → Spreading C₀ v n w p C' rest (left - 1) f
-spread_next {left = left} h g hd tl cp e y =
-    let z : left - 1 ≡ suc (left - 2) = omega arith in
-    rw z (spread_step (left - 2) (omega arith) g hd tl cp e y)
+pub spread_next : {C₀ C C' : List ℕ} {v ahead row rest o : Val} {n w p i free f : ℕ} → i < n → Spreading C₀ v n w p C ahead (n + 1 - i) free → Headed C ahead row → Tailed C ahead rest → CopiedLine C row w free w o C' → length C' ≡ length C → f ≡ (free + w) % 4294967296 → Spreading C₀ v n w p C' rest (n + 1 - (i + 1)) f
+spread_next {n = n} {i = i} h g hd tl cp e y =
+    let z : n + 1 - (i + 1) ≡ suc (n - i - 1) = omega arith in
+    rw z (spread_step (n - i - 1) (omega arith) g hd tl cp e y)
 
 -- ---- the last row
 length_column : (j : ℕ) (rs : Objs) → length_of (column_at j rs) ≡ length_of rs
@@ -137,7 +137,7 @@ spread_last {C = C} {C' = C'} {n = n} {w = w} {p = p} {free = free} {f = f} rs (
       same = same_trans l s g.same;
     }
 
-pub spread_end : {C₀ C C' : List ℕ} {v ahead row o : Val} {n w p left free f : ℕ} → (n ≡ 0 → ⊥) → left ≤ 1 → Spreading C₀ v n w p C ahead left free → Headed C ahead row → CopiedLine C row w free 0 o C' → f ≡ (free + w) % 4294967296 → RowsSpread C₀ v n w p f C'
-spread_end {w = w} {left = left} h l g hd cp y =
-    let z : left ≡ 1 = omega (arith, g.some) in
+pub spread_end : {C₀ C C' : List ℕ} {v ahead row o : Val} {n w p i free f : ℕ} → (n ≡ 0 → ⊥) → n ≤ i → Spreading C₀ v n w p C ahead (n + 1 - i) free → Headed C ahead row → CopiedLine C row w free 0 o C' → f ≡ (free + w) % 4294967296 → RowsSpread C₀ v n w p f C'
+spread_end {n = n} {w = w} {i = i} h l g hd cp y =
+    let z : n + 1 - i ≡ 1 = omega (arith, g.some) in
     record { means = λ rs k a sp rv. let m = g.means rs k a sp rv in spread_last rs m.todo (m.long ∙ z) k (omega (arith, h)) m.rows m.low (omega (arith, rw z at m.sum, mul-suc w 0)) g.len sp hd cp y m.still m.same m.begun }

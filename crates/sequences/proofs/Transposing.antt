@@ -51,9 +51,6 @@ pub record Checking (C : List ℕ) (p₀ n w p left : ℕ) : Type 0 where
   pub fits : p < 4294967296
   pub means : (k : ℕ) (xs : Objs) → k < 4294967296 → length_of xs ≡ n → From C k p₀ xs → RowsNow C k xs w p left
 
-pub rows_start : {C : List ℕ} {p n w : ℕ} → p < 4294967296 → Checking C p n w p n
-rows_start l = record { fits = l; means = λ k xs u e f. record { ahead = xs; long = e; still = f; whole = refl } }
-
 starts : {C : List ℕ} {k p : ℕ} {v : Val} {xs : Objs} → p ≡ first_of v → Rep C k v (seq xs) → From C k p xs
 starts {v = v} e r = record { val = v; first = e; rep = r }
 
@@ -65,33 +62,33 @@ unfolding are_rows
 rows_no w xs nil u h e d f g r q = absurd (omega arith)
 rows_no w xs (y :: ys) u h e d f g r q = sym (q ∙ ap (λ (t : Bool). t && are_rows w ys) (no_row w f g (row_here u d r)))
 
-pub rows_atom : {C : List ℕ} {v row : Val} {p₀ n w p left : ℕ} {b : Bool} → p₀ ≡ first_of v → Checking C p₀ n w p left → 0 < left → row ≡ val_at C p → b ≡ eqb row.tag 3 → not b ≡ true → Rows C v n w false
-rows_atom {w = w} {b = b} i g h d f z = record { means = λ k xs u e r. let m = g.means k xs u e (starts i r) in rows_no w xs m.ahead u h m.long d f (not-true b z) m.still m.whole }
+pub rows_atom : {C : List ℕ} {v row : Val} {p₀ n w p k : ℕ} {b : Bool} → p₀ ≡ first_of v → Checking C p₀ n w p (n - k) → k < n → row ≡ val_at C p → b ≡ eqb row.tag 3 → not b ≡ true → Rows C v n w false
+rows_atom {w = w} {b = b} i g h d f z = record { means = λ o xs u e r. let m = g.means o xs u e (starts i r) in rows_no w xs m.ahead u (omega arith) m.long d f (not-true b z) m.still m.whole }
 
 rows_other : {C : List ℕ} {k p left n : ℕ} (w : ℕ) {row : Val} {b : Bool} (xs ahead : Objs) → k < 4294967296 → 0 < left → length_of ahead ≡ left → row ≡ val_at C p → b ≡ eqb row.tag 3 → b ≡ true → Sized row n → (n ≡ w → ⊥) → From C k p ahead → are_rows w xs ≡ are_rows w ahead → false ≡ are_rows w xs
 unfolding are_rows
 rows_other w xs nil u h e d f g s z r q = absurd (omega arith)
 rows_other {n = n} w xs (y :: ys) u h e d f g s z r q = sym (q ∙ ap (λ (t : Bool). t && are_rows w ys) (a_row w u f g s (row_here u d r) ∙ ne_eqb n w z))
 
-pub rows_uneven : {C : List ℕ} {v row : Val} {p₀ n w p left i : ℕ} {b : Bool} → p₀ ≡ first_of v → Checking C p₀ n w p left → 0 < left → row ≡ val_at C p → b ≡ eqb row.tag 3 → not b ≡ false → Sized row i → (i ≡ w → ⊥) → Rows C v n w false
-rows_uneven {w = w} {b = b} j g h d f z s o = record { means = λ k xs u e r. let m = g.means k xs u e (starts j r) in rows_other w xs m.ahead u h m.long d f (not-false b z) s o m.still m.whole }
+pub rows_uneven : {C : List ℕ} {v row : Val} {p₀ n w p k i : ℕ} {b : Bool} → p₀ ≡ first_of v → Checking C p₀ n w p (n - k) → k < n → row ≡ val_at C p → b ≡ eqb row.tag 3 → not b ≡ false → Sized row i → (i ≡ w → ⊥) → Rows C v n w false
+rows_uneven {w = w} {b = b} j g h d f z s o = record { means = λ q xs u e r. let m = g.means q xs u e (starts j r) in rows_other w xs m.ahead u (omega arith) m.long d f (not-false b z) s o m.still m.whole }
 
-rows_more : {C : List ℕ} {k p q left n : ℕ} (w : ℕ) {row : Val} {b : Bool} (xs ahead : Objs) → k < 4294967296 → 0 < left → length_of ahead ≡ left → row ≡ val_at C p → b ≡ eqb row.tag 3 → b ≡ true → Sized row n → n ≡ w → q ≡ next_at C p - 1 → From C k p ahead → are_rows w xs ≡ are_rows w ahead → RowsNow C k xs w q (left - 1)
+rows_more : {C : List ℕ} {k p q left n : ℕ} (w : ℕ) {row : Val} {b : Bool} (xs ahead : Objs) → k < 4294967296 → 0 < left + 1 → length_of ahead ≡ left + 1 → row ≡ val_at C p → b ≡ eqb row.tag 3 → b ≡ true → Sized row n → n ≡ w → q ≡ next_at C p - 1 → From C k p ahead → are_rows w xs ≡ are_rows w ahead → RowsNow C k xs w q left
 unfolding are_rows
 rows_more w xs nil u h e d f g s z t r q = absurd (omega arith)
 rows_more {n = n} w xs (y :: ys) u h e d f g s z t r q =
     record { ahead = ys; long = omega arith; still = from_next u t r; whole = q ∙ ap (λ (b : Bool). b && are_rows w ys) (a_row w u f g s (row_here u d r) ∙ eq-eqb n w z) }
 
-pub rows_next : {C : List ℕ} {row : Val} {p₀ n w p q left i : ℕ} {b : Bool} → Checking C p₀ n w p left → 0 < left → row ≡ val_at C p → b ≡ eqb row.tag 3 → not b ≡ false → Sized row i → i ≡ w → q ≡ next_at C p - 1 → q < 4294967296 → Checking C p₀ n w q (left - 1)
-rows_next {w = w} {b = b} g h d f z s o t l = record { fits = l; means = λ k xs u e r. let m = g.means k xs u e r in rows_more w xs m.ahead u h m.long d f (not-false b z) s o t m.still m.whole }
+pub rows_next : {C : List ℕ} {row : Val} {p₀ n w p q k i : ℕ} {b : Bool} → Checking C p₀ n w p (n - k) → k < n → row ≡ val_at C p → b ≡ eqb row.tag 3 → not b ≡ false → Sized row i → i ≡ w → q ≡ next_at C p - 1 → q < 4294967296 → Checking C p₀ n w q (n - (k + 1))
+rows_next {n = n} {w = w} {k = k} {b = b} g h d f z s o t l = record { fits = l; means = λ i xs u e r. let m = g.means i xs u e r in rows_more w xs m.ahead u (omega arith) (omega (arith, m.long)) d f (not-false b z) s o t m.still m.whole }
 
 rows_done : (w left : ℕ) (xs ahead : Objs) → left ≤ 0 → length_of ahead ≡ left → are_rows w xs ≡ are_rows w ahead → true ≡ are_rows w xs
 unfolding are_rows
 rows_done w left xs nil h e q = sym q
 rows_done w left xs (y :: ys) h e q = absurd (omega arith)
 
-pub rows_end : {C : List ℕ} {v : Val} {p₀ n w p left : ℕ} → p₀ ≡ first_of v → Checking C p₀ n w p left → left ≤ 0 → Rows C v n w true
-rows_end {w = w} {left = left} i g h = record { means = λ k xs u e r. let m = g.means k xs u e (starts i r) in rows_done w left xs m.ahead h m.long m.whole }
+pub rows_end : {C : List ℕ} {v : Val} {p₀ n w p k : ℕ} → p₀ ≡ first_of v → Checking C p₀ n w p (n - k) → n ≤ k → Rows C v n w true
+rows_end {n = n} {w = w} {k = k} i g h = record { means = λ o xs u e r. let m = g.means o xs u e (starts i r) in rows_done w (n - k) xs m.ahead (omega arith) m.long m.whole }
 
 -- ---- a row's places
 pub record RowAt (w : ℕ) (x : Obj) : Type 0 where

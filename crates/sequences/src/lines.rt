@@ -12,7 +12,7 @@ fn link_over(p: u32, d: u32) -> u32
     if d == 0 {
         return 0;
     }
-    ((p as u64 + d as u64 + 1) % 4294967296) as u32
+    p.wrapping_add(d).wrapping_add(1)
 }
 
 // Makes cell p: the value v, and then the place in the cell d further on, or none where d is 0.
@@ -26,16 +26,14 @@ fn put_over(c: &mut [u32], p: u32, v: Val, d: u32)
 pub fn copied(c: &mut [u32], v: Val, n: u32, p: u32, d: u32) -> Val
     ensures { CopiedLine c.old v n p d result c.new }
 {
-    if 4294967295 - p < n {
+    if p.checked_add(n).is_none() {
         return v;
     }
     let mut ahead = v;
-    let mut q: u32 = 0;
-    while q < n {
+    for q in 0..n {
         let x = cells::head(c, ahead);
         ahead = cells::tail(c, ahead);
         put_over(c, p + q, x, d);
-        q += 1;
     }
     ahead
 }

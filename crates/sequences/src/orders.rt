@@ -19,19 +19,15 @@ pub fn without_last(c: &mut [u32], v: Val, n: u32, p: u32) -> Val
 pub fn turned(c: &mut [u32], v: Val, n: u32, p: u32) -> Val
     ensures { Rearranged reversed c.old v n p result c.new }
 {
-    if 4294967295 - p < n {
+    let Some(end) = p.checked_add(n) else {
         return v;
-    }
+    };
     let mut rest = v;
     let mut made = cells::sequence(0, 0);
-    let mut left = n;
-    let mut free = p;
-    while 0 < left {
+    for free in p..end {
         let x = cells::head(c, rest);
         rest = cells::tail(c, rest);
         made = places::put_before(c, free, x, made);
-        free += 1;
-        left -= 1;
     }
     made
 }
@@ -43,7 +39,7 @@ pub fn left_turned(c: &mut [u32], v: Val, n: u32, p: u32) -> Val
     if n == 0 {
         return v;
     }
-    if p == 4294967295 {
+    if p == u32::MAX {
         return v;
     }
     let first = cells::head(c, v);
@@ -59,7 +55,7 @@ pub fn right_turned(c: &mut [u32], v: Val, n: u32, p: u32) -> Val
     if n == 0 {
         return v;
     }
-    if 4294967295 - p < n {
+    if p.checked_add(n).is_none() {
         return v;
     }
     let last = cells::nth(c, v, n - 1);

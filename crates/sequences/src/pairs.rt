@@ -9,16 +9,17 @@ fn joined(c: &mut [u32], p: u32, a: Val, b: Val, first: bool) -> Val
     ensures { Joined c.old p a b first result c.new }
 {
     if first {
-        return cells::pair(c, p, a, b);
+        cells::pair(c, p, a, b)
+    } else {
+        cells::pair(c, p, b, a)
     }
-    cells::pair(c, p, b, a)
 }
 
 // The pair of a and b as above, and then its place in cell p + 2, which leads to next.
 fn coupled(c: &mut [u32], p: u32, a: Val, b: Val, first: bool, next: u32)
     ensures { Coupled c.old p a b first next c.new }
 {
-    if 4294967293 < p {
+    if u32::MAX - 2 < p {
         return;
     }
     let x = joined(c, p, a, b, first);
@@ -32,21 +33,16 @@ pub fn shared(c: &mut [u32], a: Val, v: Val, first: bool, n: u32, p: u32) -> Val
     if n == 0 {
         return v;
     }
-    if 1073741823 < n {
-        return v;
-    }
-    if 4294967295 - p < 3 * n {
+    if u32::MAX / 4 < n || u32::MAX - p < 3 * n {
         return v;
     }
     let mut ahead = v;
-    let mut left = n;
     let mut free = p;
-    while 1 < left {
+    for _ in 1..n {
         let b = cells::head(c, ahead);
         ahead = cells::tail(c, ahead);
         coupled(c, free, a, b, first, free + 6);
         free += 3;
-        left -= 1;
     }
     let last = cells::head(c, ahead);
     coupled(c, free, a, last, first, 0);

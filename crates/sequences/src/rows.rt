@@ -1,5 +1,5 @@
 // The columns of rows of equal length.
-ghost use Rattle.std.specs.Prelude.{◌≡◌, ◌+◌, ◌%◌};
+ghost use Rattle.std.specs.Prelude.{◌≡◌, ◌+◌};
 ghost use Rattle.sequences.specs.Lines.{sequence_from, RowsSpread, ColumnsListed};
 ghost use Rattle.sequences.specs.Making.{Rows, Columns};
 
@@ -11,30 +11,18 @@ pub fn are_rows(c: &[u32], v: Val, n: u32, w: u32) -> bool
     ensures { Rows c.now v n w result }
 {
     let mut p = cells::first_cell(v);
-    let mut left = n;
-    while 0 < left {
+    for _ in 0..n {
         let row = cells::value_at(c, p);
-        if !cells::is_sequence(row) {
-            return false;
-        }
-        if cells::size(row) != w {
+        if !cells::is_sequence(row) || cells::size(row) != w {
             return false;
         }
         p = cells::next_cell(c, p);
-        left -= 1;
     }
     true
 }
 
-// The number w further on than p. No table has so many cells that it could run over.
-fn further(p: u32, w: u32) -> u32
-    ensures { result ≡ (p + w) % 4294967296 }
-{
-    ((p as u64 + w as u64) % 4294967296) as u32
-}
-
 // The n rows of v, one after the other in the cells from p on, each place leading to the one below it. Answers the next
-// free cell.
+// free cell. No table has so many cells that a number could run over.
 fn spread(c: &mut [u32], v: Val, n: u32, w: u32, p: u32) -> u32
     ensures { RowsSpread c.old v n w p result c.new }
 {
@@ -42,18 +30,16 @@ fn spread(c: &mut [u32], v: Val, n: u32, w: u32, p: u32) -> u32
         return p;
     }
     let mut ahead = v;
-    let mut left = n;
     let mut free = p;
-    while 1 < left {
+    for _ in 1..n {
         let row = cells::head(c, ahead);
         ahead = cells::tail(c, ahead);
         lines::copied(c, row, w, free, w);
-        free = further(free, w);
-        left -= 1;
+        free = free.wrapping_add(w);
     }
     let last = cells::head(c, ahead);
     lines::copied(c, last, w, free, 0);
-    further(free, w)
+    free.wrapping_add(w)
 }
 
 // The sequence of n places that begins in cell first + j.
@@ -63,7 +49,7 @@ fn begun_at(first: u32, j: u32, n: u32) -> Val
     if n == 0 {
         return cells::sequence(0, 0);
     }
-    cells::sequence(((first as u64 + j as u64 + 1) % 4294967296) as u32, n)
+    cells::sequence(first.wrapping_add(j).wrapping_add(1), n)
 }
 
 // The sequence of the w sequences of n places that begin in the cells from first on, in the cells from p on.
@@ -71,13 +57,11 @@ fn listed(c: &mut [u32], first: u32, n: u32, w: u32, p: u32) -> Val
     ensures { ColumnsListed c.old first n w p result c.new }
 {
     let mut s = cells::sequence(0, 0);
-    if 4294967295 - p < w {
+    if p.checked_add(w).is_none() {
         return s;
     }
-    let mut left = w;
     let mut free = p;
-    while 0 < left {
-        left -= 1;
+    for left in (0..w).rev() {
         let x = begun_at(first, left, n);
         s = places::put_before(c, free, x, s);
         free += 1;

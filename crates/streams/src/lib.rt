@@ -1,7 +1,7 @@
 // What the programs read: a stream's bytes in a lent buffer.
 #![tactic(auto)]
 
-ghost use Rattle.std.specs.Prelude.{◌≡◌, ◌≤◌, length, IfOk};
+ghost use Rattle.std.specs.Prelude.{◌≡◌, ◌≤◌, length, IfOk, IfSome};
 
 use std::io::{self, Read};
 
@@ -21,9 +21,36 @@ pub fn read_full<R: Read>(input: &mut R, buf: &mut [u8]) -> io::Result<usize>
     Ok(done)
 }
 
-// 65,536 zeros, which hold every text of the programs' data. The `ensures` gives only the length.
-pub fn large_buffer() -> [u8; 65536]
-    ensures { 65536 ≡ length result }
+// Reads the next n bytes to the start of buf, and gives them; nothing if the input ends before that.
+pub fn read_exactly<'a, R: Read>(
+    input: &mut R,
+    buf: &'a mut [u8],
+    n: usize,
+) -> io::Result<Option<&'a [u8]>>
+    requires { n ≤ length buf.old }
+    ensures { IfOk result (λ read. IfSome read (λ text. length text.now ≡ n)) }
 {
-    [0; 65536]
+    let text = &mut buf[..n];
+    if read_full(input, text)? < n {
+        return Ok(None);
+    }
+    Ok(Some(text))
+}
+
+// Reads the next N bytes; nothing if the input ends before that.
+pub fn read_array<R: Read, const N: usize>(input: &mut R) -> io::Result<Option<[u8; N]>>
+    ensures { IfOk result (λ read. IfSome read (λ bytes. length bytes ≡ N)) }
+{
+    let mut bytes = [0; N];
+    if read_full(input, &mut bytes)? < N {
+        return Ok(None);
+    }
+    Ok(Some(bytes))
+}
+
+// An array with this value in every place. The `ensures` gives only the length: goals that name the array stay short.
+pub fn filled<T: Copy, const N: usize>(value: T) -> [T; N]
+    ensures { length result ≡ N }
+{
+    [value; N]
 }

@@ -1,12 +1,12 @@
 -- Laws of `put`: runs behind, before and over each other; its length; what is read of it, inside and outside of what was put.
-use mathlib.Core.Path.{◌≡◌, ap, ◌∙◌}
+use mathlib.Core.Path.{◌≡◌, ap, sym, ◌∙◌}
 use mathlib.Core.List.{List, [], ◌∷◌, ◌++◌, append_assoc, append-nil}
 use Prim.Native.Nat.{ℕ, ◌+◌, ◌-◌, ◌≤◌, ◌<◌}
 use native.Mathlib.Nat.{add-zero}
-use native.Mathlib.Numerals.{add-one, add-two, add-three}
 use native.Mathlib.Omega.{arith}
 use lib.ListN.{length, take, drop, set, get_or, length-append, take-append-drop, get_or-append}
 use lib.Seq.{sets-eq, take_at, drop_at, drop-append-add, drop-drop, take-append-le, take-take, length-take-le, get_or-take, get_or-drop, get_or-append-add}
+use borrow.Rule.Slice.PartMut.{put_mid}
 use Rattle.tables.specs.Tables.{put}
 
 pub past : (p q : List ℕ) (n m : ℕ) → length p ≡ n → drop (n + m) (p ++ q) ≡ drop m q
@@ -95,12 +95,7 @@ pub set_put : (t : List ℕ) (k a : ℕ) → k + 1 ≤ length t → set t k a �
 unfolding put
 set_put t k a h = sets-eq (a ∷ []) t k h
 
-pub set_before : (t : List ℕ) (k a : ℕ) (vs : List ℕ) → k + 1 + length vs ≤ length t → set (put t (k + 1) vs) k a ≡ put t k (a ∷ vs)
-set_before t k a vs h =
-    let l = length_put t (k + 1) vs h in
-    set_put (put t (k + 1) vs) k a (omega arith) ∙ put_before t k (a ∷ []) vs h
-
--- four stores, one behind the other
-pub four_stores : (t : List ℕ) (i a b c d : ℕ) → i + 4 ≤ length t → set (set (set (set t i a) (i + 1) b) (i + 2) c) (i + 3) d ≡ put t i (a ∷ b ∷ c ∷ d ∷ [])
+-- a part of k places written over, as a write to `t[i..i + k]` leaves it
+pub put_part : (t : List ℕ) (i k : ℕ) (vs : List ℕ) → k ≡ length vs → put_mid i k t vs ≡ put t i vs
 unfolding put
-four_stores t i a b c d h = rw (add-one, add-two, add-three) (sets-eq (a ∷ b ∷ c ∷ d ∷ []) t i h)
+put_part t i k vs e = rw (e, drop-drop) (sym (append_assoc (take i t) vs (drop (i + length vs) t)))

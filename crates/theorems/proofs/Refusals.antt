@@ -1,13 +1,13 @@
 -- What a reader gets ends behind its start and within the text; a refusal has one of 01's numbers and a place within the text.
 use Prim.Native.Nat.{ℕ, zero, suc, ◌+◌, ◌-◌, ◌≤◌}
 use Prim.Native.Char.{code}
-use mathlib.Core.Path.{◌≡◌, refl}
+use mathlib.Core.Path.{◌≡◌, refl, sym, ◌∙◌}
 use mathlib.Core.Bool.{Bool, true, false, cond, ◌&&◌, ◌||◌, and-eq-true_iff}
 use mathlib.Core.List.{List, [], ◌∷◌}
 use native.Mathlib.Omega.{arith}
-use borrow.Author.Tests.{eqb-true}
+use borrow.Author.Tests.{eqb-true, leb-true, leb-false}
 use lib.Dec.{leb, eqb, ltb}
-use lib.ListN.{length, drop, length-drop}
+use lib.ListN.{length, take, drop, length-take, length-drop, drop_of_length-le, get_or-eq_default}
 use Rattle.language.specs.Objects.{Obj, Objs}
 use Rattle.language.specs.Forms.{Form, construct, constant, insert, apply_all, bu, condition, while, Forms, Prog, forms_of}
 use Rattle.language.specs.Tokens.{is_blank, is_digit, is_letter, is_word_byte, byte_at, span, place_from, dash_size, size, size_at}
@@ -180,6 +180,32 @@ mutual
   objects_within zero s at room l = spent s
   objects_within (suc k) s at room l =
       meets_then (object_within k s at room l) (λ x e q. after_object_within s at x e (λ a. read_objs k s a room) q (λ i. objects_within k s (place_from s e + 1) room i))
+
+-- from the text's end on no object stands: the number is 6
+pub object_past : (k : ℕ) (s : List ℕ) (at room : ℕ) → length s ≤ at → read_obj (suc k) s at room ≡ no 6 at
+unfolding read_obj judge_atom place_from span
+object_past k s at room h =
+    let rest : drop at s ≡ [] = drop_of_length-le s h in
+    let p : place_from s at ≡ at = rw rest (omega arith) in
+    let byte : byte_at s at ≡ 0 = get_or-eq_default s 0 {n = at} h in
+    let word : word_at s at ≡ [] = drop_of_length-le (take (at + size_at s at) s) (rw length-take (omega arith)) in
+    rw (p, byte, word) refl
+
+six : {A : Type 0} {a n p : ℕ} → ◌≡◌ {A = Got A} (no 6 a) (no n p) → 6 ≡ n
+six e = cc
+
+-- and from any place on the number is 6 to 9
+pub object_refuses : (k : ℕ) (s : List ℕ) (at room n p : ℕ) → read_obj k s at room ≡ no n p → (6 ≤ n) × (n ≤ 9)
+unfolding read_obj
+object_refuses k s at room n p e = go (leb at (length s)) refl
+  where
+    past : (k : ℕ) → length s ≤ at → read_obj k s at room ≡ no n p → (6 ≤ n) × (n ≤ 9)
+    past zero h e = let f : 6 ≡ n = six e in (omega (arith, f), omega (arith, f))
+    past (suc k) h e = let f : 6 ≡ n = six (sym (object_past k s at room h) ∙ e) in (omega (arith, f), omega (arith, f))
+
+    go : (t : Bool) → leb at (length s) ≡ t → (6 ≤ n) × (n ≤ 9)
+    go true t = let r = no_meets (object_within k s at room (leb-true at (length s) t)) e in (r.low, r.high)
+    go false t = let b = leb-false at (length s) t in past k (omega arith) e
 
 pub objects_refused : ObjectsRefused
 unfolding read_object at_end

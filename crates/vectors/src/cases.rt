@@ -1,20 +1,47 @@
 // Cases as tools/convert_vectors.py writes them: thirteen numbers of 32 bits, the lowest byte first, and three texts. In
 // front of a wrong case stand three numbers more: the entry that it expects to be another.
-ghost use Rattle.std.specs.Prelude.{◌≤◌};
+ghost use Rattle.std.specs.Prelude.{◌≡◌, ◌<◌, ◌↔◌, Ok};
+ghost use Rattle.vectors.specs.declared.cases.Table.TheVariants.{Output, Forms, Cells};
 
 use language::Answer;
 
-// One entry that is expected to be this value, whatever is expected around it: of the output (1), of the form table (2), of
-// the cell table (3); or none (0).
-#[derive(Clone, Copy)]
+// What a run is lent, by the numbers that cases give.
+#[derive(Clone, Copy, Debug, PartialEq, Eq)]
+pub enum Table {
+    Output = 1,
+    Forms = 2,
+    Cells = 3,
+}
+
+// A number that names no table.
+#[derive(Clone, Copy, Debug, PartialEq, Eq)]
+pub struct NoTable;
+
+impl TryFrom<u32> for Table {
+    type Error = NoTable;
+
+    ghost try_from_gives = { λ n r. ((r ≡ Ok Output) ↔ (n ≡ 1)) × (((r ≡ Ok Forms) ↔ (n ≡ 2)) × ((r ≡ Ok Cells) ↔ (n ≡ 3))) };
+
+    fn try_from(number: u32) -> Result<Table, NoTable> {
+        match number {
+            1 => Ok(Table::Output),
+            2 => Ok(Table::Forms),
+            3 => Ok(Table::Cells),
+            _ => Err(NoTable),
+        }
+    }
+}
+
+// One entry that is expected to be this value, whatever is expected around it.
+#[derive(Clone, Copy, Debug, PartialEq, Eq)]
 pub struct Entry {
-    pub table: u32,
-    pub place: u32,
+    pub table: Table,
+    pub place: usize,
     pub value: u32,
 }
 
-// The lengths of the three texts, the budgets, the output's length, and the answer.
-#[derive(Clone, Copy)]
+// The lengths of the three texts, the budgets, the output's length, the answer, and the entry that is expected to be another.
+#[derive(Clone, Copy, Debug, PartialEq, Eq)]
 pub struct Case {
     pub program: u32,
     pub object: u32,
@@ -24,20 +51,30 @@ pub struct Case {
     pub cells: u32,
     pub room: u32,
     pub answer: Answer,
+    pub entry: Option<Entry>,
 }
 
-fn wide(b: u8) -> u64
-    ensures { result ≤ 255 }
+impl Case {
+    // What has to stand at place i of a table, where all is v but the entry that the case names.
+    pub fn expected(&self, table: Table, i: usize, v: u32) -> u32 {
+        match self.entry {
+            Some(e) if e.table == table && e.place == i => e.value,
+            _ => v,
+        }
+    }
+}
+
+// Number i of a head; a byte behind its end counts as 0.
+fn number(s: &[u8], i: usize) -> u32
+    requires { i < 13 }
 {
-    b as u64
-}
-
-// Number i of the thirteen.
-fn number(s: &[u8], i: usize) -> u32 {
-    let k = (i % 13) * 4;
-    let low = wide(lexer::byte_at(s, k)) + 256 * wide(lexer::byte_at(s, k + 1));
-    let high = wide(lexer::byte_at(s, k + 2)) + 256 * wide(lexer::byte_at(s, k + 3));
-    ((low + 65536 * high) % 4294967296) as u32
+    let k = 4 * i;
+    u32::from_le_bytes([
+        lexer::byte_at(s, k),
+        lexer::byte_at(s, k + 1),
+        lexer::byte_at(s, k + 2),
+        lexer::byte_at(s, k + 3),
+    ])
 }
 
 fn read_answer(s: &[u8]) -> Answer {
@@ -51,23 +88,18 @@ fn read_answer(s: &[u8]) -> Answer {
     }
 }
 
-pub fn no_entry() -> Entry {
-    Entry {
-        table: 0,
-        place: 0,
-        value: 0,
-    }
-}
-
-pub fn read_entry(s: &[u8]) -> Entry {
-    Entry {
-        table: number(s, 0),
-        place: number(s, 1),
+// The entry that stands in front of a wrong case; none where its number names no table.
+pub fn read_entry(s: &[u8]) -> Option<Entry> {
+    let table = Table::try_from(number(s, 0)).ok()?;
+    Some(Entry {
+        table,
+        place: number(s, 1) as usize,
         value: number(s, 2),
-    }
+    })
 }
 
-pub fn read_case(s: &[u8]) -> Case {
+// The case of this head.
+pub fn read_case(s: &[u8], entry: Option<Entry>) -> Case {
     Case {
         program: number(s, 0),
         object: number(s, 1),
@@ -77,5 +109,6 @@ pub fn read_case(s: &[u8]) -> Case {
         cells: number(s, 5),
         room: number(s, 6),
         answer: read_answer(s),
+        entry,
     }
 }

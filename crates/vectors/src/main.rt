@@ -3,66 +3,61 @@
 // found to differ, there.
 #![tactic(auto)]
 
-mod buffers;
 mod cases;
 mod comparing;
+mod differences;
+mod lent;
 mod printing;
 
 use std::fs::File;
 use std::{fs, io};
 
-// The file has no case any more; or one was run, with 1 if all agrees and else 0.
-#[derive(Clone, Copy)]
-enum Next {
-    End,
-    Ran(u64),
-}
+// The most cases of a file that are run.
+const CASE_LIMIT: u64 = 1000000;
 
-#[derive(Clone, Copy)]
-struct Tally {
-    all: u64,
-    good: u64,
+#[derive(Clone, Copy, Debug, PartialEq, Eq)]
+pub struct Tally {
+    pub all: u64,
+    pub good: u64,
 }
 
 // Reads the entry in front of a wrong case; in front of another there is none.
-fn next_entry(file: &mut File, wrong: bool) -> io::Result<cases::Entry> {
+fn next_entry(file: &mut File, wrong: bool) -> io::Result<Option<cases::Entry>> {
     if !wrong {
-        return Ok(cases::no_entry());
+        return Ok(None);
     }
-    let mut head = [0u8; 12];
-    streams::read_full(file, &mut head)?;
-    Ok(cases::read_entry(&head))
+    let head = streams::read_array::<_, 12>(file)?;
+    Ok(head.and_then(|head| cases::read_entry(&head)))
 }
 
-fn run_next(rt: &HostRuntime, file: &mut File, wrong: bool, k: u64) -> io::Result<Next> {
-    let e = next_entry(file, wrong)?;
-    let mut head = [0u8; 52];
-    let n = streams::read_full(file, &mut head)?;
-    if n < 52 {
-        return Ok(Next::End);
-    }
-    let good = comparing::run_case(rt, file, cases::read_case(&head), e, k)?;
-    Ok(Next::Ran(good))
+// Runs the file's next case, and gives whether all agrees; nothing where the file has no case any more.
+fn run_next(rt: &HostRuntime, file: &mut File, wrong: bool, k: u64) -> io::Result<Option<bool>> {
+    let entry = next_entry(file, wrong)?;
+    let Some(head) = streams::read_array::<_, 52>(file)? else {
+        return Ok(None);
+    };
+    let c = cases::read_case(&head, entry);
+    Ok(Some(comparing::run_case(rt, file, &c, k)?))
 }
 
 fn run_all(rt: &HostRuntime, file: &mut File, wrong: bool) -> io::Result<Tally> {
-    let mut all: u64 = 0;
     let mut good: u64 = 0;
-    while all < 1000000 {
-        let k = match run_next(rt, file, wrong, all)? {
-            Next::End => return Ok(Tally { all, good }),
-            Next::Ran(k) => k,
+    for all in 0..CASE_LIMIT {
+        let Some(agrees) = run_next(rt, file, wrong, all)? else {
+            return Ok(Tally { all, good });
         };
-        good = good.wrapping_add(k);
-        all += 1;
+        good += u64::from(agrees);
     }
-    Ok(Tally { all, good })
+    Ok(Tally {
+        all: CASE_LIMIT,
+        good,
+    })
 }
 
 fn run_file(rt: &HostRuntime, path: &str, wrong: bool) -> io::Result<()> {
     let mut file = fs::open(rt, path)?;
     let t = run_all(rt, &mut file, wrong)?;
-    printing::print_tally(rt, t.all, t.good)
+    printing::print_tally(rt, t)
 }
 
 fn main(rt: HostRuntime) -> io::Result<()> {

@@ -2,17 +2,10 @@
 // and 0. It reads up to 16,384 bytes.
 #![tactic(auto)]
 
-ghost use Rattle.std.specs.Prelude.{◌≡◌, length, ltb, IfOk};
+ghost use Rattle.std.specs.Prelude.{◌≡◌, ltb, IfOk};
 
 use language::Token;
 use std::io;
-
-// 16,384 zeros. The `ensures` gives only the length.
-fn room() -> [u8; 16384]
-    ensures { 16384 ≡ length result }
-{
-    [0; 16384]
-}
 
 // Prints one line, and answers whether it is a word's.
 fn show(rt: &impl Print, t: Token) -> io::Result<bool>
@@ -32,7 +25,7 @@ fn show_all(rt: &impl Print, text: &[u8]) -> io::Result<()> {
 }
 
 fn main(rt: HostRuntime) -> io::Result<()> {
-    let mut buf = room();
+    let mut buf: [u8; 16384] = streams::filled(0);
     let n = streams::read_full(&mut rt.stdin(), &mut buf)?;
     show_all(&rt, &buf[..n])
 }

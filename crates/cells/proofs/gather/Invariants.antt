@@ -4,6 +4,3 @@ use Rattle.cells.proofs.gather.Given as goal
 
 abbrev pub invariant-loop-left : goal.invariant-loop-left
 invariant-loop-left l = Gathering l.initial.c l.w l.top l.n l.p l.c l.left l.link l.free
-
-abbrev pub decreases-loop-left : goal.decreases-loop-left
-decreases-loop-left l = l.left

@@ -10,7 +10,7 @@ abbrev pub decreases-same : goal.decreases-same
 decreases-same l = 2 * l.m.steps
 
 abbrev pub invariant-places-loop-p : goal.invariant-places-loop-p
-invariant-places-loop-p l = Placing l.c l.initial.p l.initial.q l.initial.k l.p l.q l.k
+invariant-places-loop-p l = Placing l.c l.initial.p l.initial.q l.initial.meter l.p l.q l.meter
 
 abbrev pub decreases-places-loop-p : goal.decreases-places-loop-p
-decreases-places-loop-p l = l.k.steps
+decreases-places-loop-p l = l.meter.steps

@@ -1,9 +1,6 @@
--- Each turn comes nearer to the end of the text.
-use Rattle.std.proofs.Common.{◌-◌, ◌≤◌, length}
+-- Each turn leaves less of the text.
+use Rattle.std.proofs.Common.{length}
 use Rattle.examples.proofs.print_all.Given as goal
 
-abbrev pub invariant-loop-at : goal.invariant-loop-at
-invariant-loop-at l = l.at ≤ length l.s
-
-abbrev pub decreases-loop-at : goal.decreases-loop-at
-decreases-loop-at l = length l.s - l.at
+abbrev pub decreases-loop-rest : goal.decreases-loop-rest
+decreases-loop-rest l = length l.rest

@@ -3,7 +3,4 @@ use Rattle.linker.proofs.Walks.{Linking}
 use Rattle.linker.proofs.link.Given as goal
 
 abbrev pub invariant-loop-i : goal.invariant-loop-i
-invariant-loop-i l = Linking l.initial.t l.total l.defs l.count l.t l.i
-
-abbrev pub decreases-loop-i : goal.decreases-loop-i
-decreases-loop-i l = l.i
+invariant-loop-i l = Linking l.initial.t l.total l.definitions l.count l.t l.i

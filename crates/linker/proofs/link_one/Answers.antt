@@ -2,11 +2,11 @@
 use Rattle.linker.proofs.Walks.{one_plain, one_chain, one_name}
 use Rattle.linker.proofs.link_one.Goals as goal
 
-pub returns-then-kind-eq-CHAIN : goal.returns-then-kind-eq-CHAIN
-returns-then-kind-eq-CHAIN c = search one_chain
+pub returns-in-5 : goal.returns-in-5
+returns-in-5 c = search one_chain
 
-pub returns-then-kind-eq-NAME : goal.returns-then-kind-eq-NAME
-returns-then-kind-eq-NAME c = search one_name
+pub returns-in-4 : goal.returns-in-4
+returns-in-4 c = search one_name
 
-pub returns : goal.returns
-returns c = search one_plain
+pub returns-in_default : goal.returns-in_default
+returns-in_default c = search one_plain

@@ -7,7 +7,7 @@ pub returns-then-left-eq0 : goal.returns-then-left-eq0
 returns-then-left-eq0 c = search unpack_out
 
 pub loop-i-preserved : goal.loop-i-preserved
-loop-i-preserved c = (search unpack_on, search unpack_rest, simp length-set (omega arith), simp length-set (omega arith), omega arith)
+loop-i-preserved c = (search unpack_on, search unpack_rest, simp length-set (omega arith), simp length-set (omega arith))
 
 pub returns : goal.returns
 returns c = search unpack_full

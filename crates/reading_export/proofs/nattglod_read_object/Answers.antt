@@ -5,8 +5,8 @@ use Rattle.reading_export.proofs.nattglod_read_object.Goals as goal
 pub returns-then-s-gt-OBJECT_LIMIT : goal.returns-then-s-gt-OBJECT_LIMIT
 returns-then-s-gt-OBJECT_LIMIT c = search object_long
 
-pub returns-in-No : goal.returns-in-No
-returns-in-No c = search object_refuses
+pub returns-in-Err : goal.returns-in-Err
+returns-in-Err c = search object_refuses
 
-pub returns-in-Got : goal.returns-in-Got
-returns-in-Got c = search object_reads
+pub returns-in-Ok : goal.returns-in-Ok
+returns-in-Ok c = search object_reads

@@ -11,8 +11,8 @@ returns-then-forms-ne-FORM_TABLE_SIZE c = search program_forms
 pub returns-then-definitions-ne-DEFINITION_TABLE_SIZE : goal.returns-then-definitions-ne-DEFINITION_TABLE_SIZE
 returns-then-definitions-ne-DEFINITION_TABLE_SIZE c = search program_names
 
-pub returns-in-No : goal.returns-in-No
-returns-in-No c = search program_refuses
+pub returns-in-Err : goal.returns-in-Err
+returns-in-Err c = search program_refuses
 
-pub returns-in-Got : goal.returns-in-Got
-returns-in-Got c = search program_reads
+pub returns-in-Ok : goal.returns-in-Ok
+returns-in-Ok c = search program_reads

@@ -1,6 +1,6 @@
--- The measure is how many cases more there may be.
-use Rattle.std.proofs.Common.{◌-◌}
+-- No more agree than were run.
+use Rattle.std.proofs.Common.{◌≤◌}
 use Rattle.vectors.proofs.run_all.Given as goal
 
-abbrev pub decreases-loop-all : goal.decreases-loop-all
-decreases-loop-all l = 1000000 - l.all
+abbrev pub invariant-loop-all : goal.invariant-loop-all
+invariant-loop-all l = l.good ≤ l.all

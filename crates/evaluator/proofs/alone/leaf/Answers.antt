@@ -16,4 +16,4 @@ pub returns-in-12 : goal.returns-in-12
 returns-in-12 c = search alone_constant
 
 pub returns-in_default : goal.returns-in_default
-returns-in_default c = search no_kind
+returns-in_default c = rw c.bottom.ensures (search no_kind)

@@ -1,5 +1,5 @@
 -- The cycle of applications meets its contracts: one law for each return and each turn of a loop.
-use Prim.Native.Nat.{◌+◌, ◌*◌, ◌-◌}
+use Prim.Native.Nat.{◌+◌, ◌*◌}
 use Rattle.evaluator.proofs.Chains.{Chaining}
 use Rattle.evaluator.proofs.Builds.{Building, Mapping}
 use Rattle.evaluator.proofs.Repeats.{Repeating}
@@ -49,31 +49,25 @@ abbrev pub decreases-step : goal.decreases-step
 decreases-step l = 5 * l.steps
 
 abbrev pub invariant-between-loop-q : goal.invariant-between-loop-q
-invariant-between-loop-q l = Inserting l.f l.initial.c l.initial.w l.top l.g l.many l.initial.y l.initial.n l.c l.w l.q l.y l.n
+invariant-between-loop-q l = Inserting l.f l.initial.c l.initial.w l.top l.g l.many l.initial.end.value l.initial.end.meter l.c l.w l.q l.end.value l.end.meter
 
 abbrev pub decreases-between-loop-q : goal.decreases-between-loop-q
 decreases-between-loop-q l = l.q
 
 abbrev pub invariant-chain-loop-j : goal.invariant-chain-loop-j
-invariant-chain-loop-j l = Chaining l.f l.initial.c l.initial.w l.top l.last l.initial.x l.initial.n l.c l.w l.j l.x l.n
+invariant-chain-loop-j l = Chaining l.f l.initial.c l.initial.w l.top l.last l.initial.end.value l.initial.end.meter l.c l.w l.j l.end.value l.end.meter
 
 abbrev pub decreases-chain-loop-j : goal.decreases-chain-loop-j
-decreases-chain-loop-j l = l.n.steps
+decreases-chain-loop-j l = l.end.meter.steps
 
 abbrev pub invariant-construct-loop-q : goal.invariant-construct-loop-q
 invariant-construct-loop-q l = Building l.f l.initial.c l.initial.w l.top l.h l.many l.v l.initial.n l.c l.w l.j l.q l.n
 
-abbrev pub decreases-construct-loop-q : goal.decreases-construct-loop-q
-decreases-construct-loop-q l = l.many - l.q
-
 abbrev pub invariant-each-loop-q : goal.invariant-each-loop-q
 invariant-each-loop-q l = Mapping l.f l.initial.c l.initial.w l.top l.g l.many l.initial.s l.initial.n l.c l.w l.s l.q l.n
 
-abbrev pub decreases-each-loop-q : goal.decreases-each-loop-q
-decreases-each-loop-q l = l.many - l.q
+abbrev pub invariant-repeat-loop-said : goal.invariant-repeat-loop-said
+invariant-repeat-loop-said l = Repeating l.f l.initial.c l.initial.w l.top l.h l.initial.end.value l.initial.end.meter l.c l.w l.end.value l.end.meter
 
-abbrev pub invariant-repeat-loop-a : goal.invariant-repeat-loop-a
-invariant-repeat-loop-a l = Repeating l.f l.initial.c l.initial.w l.top l.h l.initial.x l.initial.n l.c l.w l.x l.n
-
-abbrev pub decreases-repeat-loop-a : goal.decreases-repeat-loop-a
-decreases-repeat-loop-a l = l.n.steps
+abbrev pub decreases-repeat-loop-said : goal.decreases-repeat-loop-said
+decreases-repeat-loop-said l = l.end.meter.steps

@@ -3,4 +3,4 @@ use Rattle.evaluator.proofs.Numbers.{constant_is}
 use Rattle.evaluator.proofs.records.constant.Goals as goal
 
 pub returns : goal.returns
-returns c = search constant_is
+returns c = rw c.word.ensures (search constant_is)

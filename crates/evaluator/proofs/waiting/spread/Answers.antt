@@ -1,12 +1,8 @@
-use native.Mathlib.Omega.{arith}
 use Rattle.evaluator.proofs.Spreads.{spread_start, spread_next, spread_end}
 use Rattle.evaluator.proofs.waiting.spread.Goals as goal
 
 pub loop-q-init : goal.loop-q-init
 loop-q-init c = search spread_start
-
-pub loop-q-smaller : goal.loop-q-smaller
-loop-q-smaller c = omega arith
 
 pub loop-q-preserved : goal.loop-q-preserved
 loop-q-preserved c = search spread_next

@@ -5,11 +5,11 @@ use Rattle.forms.proofs.marks.read_test.Goals as goal
 pub returns-then-is_arrow : goal.returns-then-is_arrow
 returns-then-is_arrow c = search test_arrow
 
-pub returns-then-b-eq63 : goal.returns-then-b-eq63
-returns-then-b-eq63 c = search test_loop
+pub returns-in-63 : goal.returns-in-63
+returns-in-63 c = search test_loop
 
-pub returns-then-b-ne41 : goal.returns-then-b-ne41
-returns-then-b-ne41 c = search test_else
+pub returns-in-41 : goal.returns-in-41
+returns-in-41 c = search test_close
 
-pub returns : goal.returns
-returns c = search test_close
+pub returns-in_default : goal.returns-in_default
+returns-in_default c = search test_else

@@ -1,19 +1,16 @@
 -- `read_bound` reads the object of `{f,x}` with the marks around it. Assumes nothing.
-use borrow.Author.Rules.{rules}
-use Rattle.forms.proofs.Plains.{bound_stops, bound_no, bound_open, bound_is, bound_mark_requires}
+use Rattle.objects.proofs.Refused.{handed_on}
+use Rattle.forms.proofs.Plains.{bound_stops, bound_no, bound_open, bound_is}
 use Rattle.forms.proofs.plain.read_bound.Goals as goal
 
-pub returns-in-No : goal.returns-in-No
-returns-in-No c = search bound_stops
+pub returns-in_err-a : goal.returns-in_err-a
+returns-in_err-a c = search (bound_stops, handed_on, c.in_err-a.was)
 
-pub read_mark-requires-in-Got-read_object : goal.read_mark-requires-in-Got-read_object
-read_mark-requires-in-Got-read_object c = search (bound_mark_requires, rules)
+pub returns-in_err-x : goal.returns-in_err-x
+returns-in_err-x c = search (bound_no, handed_on, c.in_ok-a.was, c.in_err-x.was)
 
-pub returns-in-No-read_object : goal.returns-in-No-read_object
-returns-in-No-read_object c = search bound_no
+pub returns-in_err-next : goal.returns-in_err-next
+returns-in_err-next c = search (bound_open, handed_on, c.in_ok-a.was, c.in_ok-x.was, c.in_err-next.was)
 
-pub returns-in-No-read_mark : goal.returns-in-No-read_mark
-returns-in-No-read_mark c = search bound_open
-
-pub returns-in-Got-read_mark : goal.returns-in-Got-read_mark
-returns-in-Got-read_mark c = search bound_is
+pub returns : goal.returns
+returns c = search (bound_is, c.in_ok-a.was, c.in_ok-x.was, c.in_ok-next.was)

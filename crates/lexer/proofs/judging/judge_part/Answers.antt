@@ -2,8 +2,8 @@
 use Rattle.lexer.proofs.Judged.{parts, first_none, first_number, first_word, first_other}
 use Rattle.lexer.proofs.judging.judge_part.Goals as goal
 
-pub returns-then-n-eq0 : goal.returns-then-n-eq0
-returns-then-n-eq0 c = search (first_none parts)
+pub returns-in_default : goal.returns-in_default
+returns-in_default c = search (first_none parts)
 
 pub returns-then-is_digit : goal.returns-then-is_digit
 returns-then-is_digit c = search (first_number parts)

@@ -1,4 +1,4 @@
--- `refusal` gives 9 for a word over 12 characters, 6 for all else. Assumes nothing.
+-- `refusal` gives the refusal of a word over 12 characters, or that of all else. Assumes nothing.
 use Rattle.lexer.proofs.Judged.{refusal_mark, refusal_long, refusal_short}
 use Rattle.lexer.proofs.judging.refusal.Goals as goal
 

@@ -1,29 +1,23 @@
 use Prim.Native.Nat.{◌+◌, ◌*◌}
 use native.Mathlib.Omega.{arith}
-use lib.Seq.{slice}
+use lib.ListN.{drop}
 use Rattle.lexer.proofs.Values.{value_turn, value_end, value_grows}
 use Rattle.lexer.proofs.numbers.value.Goals as goal
 
 pub returns-then-v-gt-HALF : goal.returns-then-v-gt-HALF
 returns-then-v-gt-HALF c =
-    let l = c in
-    let a = l.args in
-    let d = c.digit in
-    let t = rw (← d.ensures.0) at (value_turn a.s.now l.loop-i.v l.loop-i.i a.to (omega arith) (omega arith)) in
-    let g = value_grows (l.loop-i.v * 10 + d.result) (slice (l.loop-i.i + 1) a.to a.s.now) in
+    let s = c.args.digits.now in
+    let l = c.loop-b in
+    let t = rw (← c.digit.ensures.0) at (value_turn s l.v l.b-index c.loop-b-test.true) in
+    let g = value_grows (l.v * 10 + c.digit.result) (drop (l.b-index + 1) s) in
     omega arith
 
-pub loop-i-preserved : goal.loop-i-preserved
-loop-i-preserved c =
-    let l = c in
-    let a = l.args in
-    let d = c.digit in
-    let t = rw (← d.ensures.0) at (value_turn a.s.now l.loop-i.v l.loop-i.i a.to (omega arith) (omega arith)) in
+pub loop-b-preserved : goal.loop-b-preserved
+loop-b-preserved c =
+    let t = rw (← c.digit.ensures.0) at (value_turn c.args.digits.now c.loop-b.v c.loop-b.b-index c.loop-b-test.true) in
     omega arith
 
 pub returns : goal.returns
 returns c =
-    let l = c in
-    let a = l.args in
-    let t = value_end a.s.now l.loop-i.v l.loop-i.i a.to (omega arith) in
+    let t = value_end c.args.digits.now c.loop-b.v c.loop-b.b-index c.loop-b-test.false in
     omega arith

@@ -1,14 +1,9 @@
-use Rattle.linker.proofs.Naming.{index_far, indexing_start, indexing_next, indexing_end}
+use mathlib.Core.Path.{refl}
+use Rattle.linker.proofs.Naming.{indexing_start, indexing_next}
 use Rattle.linker.proofs.names.index.Goals as goal
 
-pub returns-then-count-gt-MOST : goal.returns-then-count-gt-MOST
-returns-then-count-gt-MOST c = search index_far
+pub loop-d-init : goal.loop-d-init
+loop-d-init c = search indexing_start
 
-pub loop-left-init : goal.loop-left-init
-loop-left-init c = search indexing_start
-
-pub loop-left-preserved : goal.loop-left-preserved
-loop-left-preserved c = search indexing_next
-
-pub returns : goal.returns
-returns c = search indexing_end
+pub loop-d-preserved : goal.loop-d-preserved
+loop-d-preserved c = indexing_next c.loop-d-test.true c.loop-d.invariant c.at.ensures refl

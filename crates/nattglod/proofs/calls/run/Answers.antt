@@ -2,8 +2,8 @@
 use Rattle.nattglod.proofs.Exits.{run_refused, run_sized, run_texts}
 use Rattle.nattglod.proofs.calls.run.Goals as goal
 
-pub returns-then-refusal-ne0 : goal.returns-then-refusal-ne0
-returns-then-refusal-ne0 c = search run_refused
+pub returns-in-Err : goal.returns-in-Err
+returns-in-Err c = search run_refused
 
 pub answer_texts-answer-requires : goal.answer_texts-answer-requires
 answer_texts-answer-requires c = search run_sized

@@ -2,8 +2,8 @@
 use Rattle.nattglod.proofs.Ended.{end_stopped, end_wrote}
 use Rattle.nattglod.proofs.ends.answer_end.Goals as goal
 
-pub returns-in-Stop : goal.returns-in-Stop
-returns-in-Stop c = search end_stopped
+pub returns-in-Err : goal.returns-in-Err
+returns-in-Err c = search end_stopped
 
-pub returns-in-Done : goal.returns-in-Done
-returns-in-Done c = search end_wrote
+pub returns-in-Ok : goal.returns-in-Ok
+returns-in-Ok c = search end_wrote

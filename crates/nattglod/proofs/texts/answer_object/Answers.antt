@@ -5,11 +5,11 @@ use Rattle.nattglod.proofs.texts.answer_object.Goals as goal
 pub at-requires : goal.at-requires
 at-requires c = search object_place
 
-pub returns-then-b-all : goal.returns-then-b-all
-returns-then-b-all c = search object_answered_few
+pub returns-in-Err : goal.returns-in-Err
+returns-in-Err c = search object_answered_no
 
-pub returns-in-No : goal.returns-in-No
-returns-in-No c = search object_answered_no
+pub returns-then-b-x : goal.returns-then-b-x
+returns-then-b-x c = search object_answered_few
 
-pub returns-else-b-all : goal.returns-else-b-all
-returns-else-b-all c = search object_answered_run
+pub returns : goal.returns
+returns c = search object_answered_run

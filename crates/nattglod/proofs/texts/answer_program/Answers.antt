@@ -8,8 +8,8 @@ at-requires c = search program_place
 pub answer_object-requires : goal.answer_object-requires
 answer_object-requires c = search program_small
 
-pub returns-in-No : goal.returns-in-No
-returns-in-No c = search texts_no
+pub returns-in-Err : goal.returns-in-Err
+returns-in-Err c = search texts_no
 
-pub returns-in-Got : goal.returns-in-Got
-returns-in-Got c = search texts_got
+pub returns-in-Ok : goal.returns-in-Ok
+returns-in-Ok c = search texts_got

@@ -2,8 +2,5 @@
 use Rattle.objects.proofs.NumberTexts.{Spelling}
 use Rattle.objects.proofs.integers.digits.Given as goal
 
-abbrev pub invariant-loop-left : goal.invariant-loop-left
-invariant-loop-left l = Spelling l.n l.a l.left l.i
-
-abbrev pub decreases-loop-left : goal.decreases-loop-left
-decreases-loop-left l = l.left
+abbrev pub invariant-loop-i : goal.invariant-loop-i
+invariant-loop-i l = Spelling l.n l.a l.left l.i

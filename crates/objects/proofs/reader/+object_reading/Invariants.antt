@@ -13,8 +13,8 @@ decreases-read_place l = 3 * l.room + 1
 abbrev pub decreases-read_places : goal.decreases-read_places
 decreases-read_places l = 3 * l.room + 2
 
-abbrev pub invariant-read_places-loop-k : goal.invariant-read_places-loop-k
-invariant-read_places-loop-k l = Going l.s l.from l.room l.used l.initial.c l.c l.at l.cell l.n
+abbrev pub invariant-read_places-loop-next : goal.invariant-read_places-loop-next
+invariant-read_places-loop-next l = Going l.s l.from l.room l.used l.initial.c l.c l.at l.cell l.n
 
-abbrev pub decreases-read_places-loop-k : goal.decreases-read_places-loop-k
-decreases-read_places-loop-k l = length l.s - l.at
+abbrev pub decreases-read_places-loop-next : goal.decreases-read_places-loop-next
+decreases-read_places-loop-next l = length l.s - l.at

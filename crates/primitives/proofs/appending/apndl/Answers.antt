@@ -1,12 +1,21 @@
 -- `apndl` answers as its word means.
+use Rattle.std.proofs.lemmas.Result.{err_from_is_err_and}
 use Rattle.primitives.proofs.Made.{apndl_atom, apndl_short, apndl_is}
 use Rattle.primitives.proofs.appending.apndl.Goals as goal
 
-pub returns-then-b-ne-SEQUENCE : goal.returns-then-b-ne-SEQUENCE
-returns-then-b-ne-SEQUENCE c = search apndl_atom
+pub returns-in_err-n : goal.returns-in_err-n
+returns-in_err-n c =
+    let p = err_from_is_err_and c.from_residual.result c.from_residual.ensures.1 in
+    let h = c.in_err-n.ensures in
+    rw (p.1, p.2, h.is) (search apndl_atom)
 
-pub returns-in-Short : goal.returns-in-Short
-returns-in-Short c = search apndl_short
+pub returns-in_err-space : goal.returns-in_err-space
+returns-in_err-space c =
+    let h = c.in_ok-n.ensures in
+    let p = err_from_is_err_and c.from_residual-in_err-space.result c.from_residual-in_err-space.ensures.1 in
+    rw (p.1, p.2) (search (apndl_short, c.in_err-space.ensures))
 
-pub returns-in-At : goal.returns-in-At
-returns-in-At c = search apndl_is
+pub returns : goal.returns
+returns c =
+    let h = c.in_ok-n.ensures in
+    search (apndl_is, c.in_ok-space.ensures)

@@ -1,12 +1,21 @@
 -- `distl` answers as its word means.
+use Rattle.std.proofs.lemmas.Result.{err_from_is_err_and}
 use Rattle.primitives.proofs.Made.{distl_atom, distl_short, distl_is}
 use Rattle.primitives.proofs.appending.distl.Goals as goal
 
-pub returns-then-b-ne-SEQUENCE : goal.returns-then-b-ne-SEQUENCE
-returns-then-b-ne-SEQUENCE c = search distl_atom
+pub returns-in_err-n : goal.returns-in_err-n
+returns-in_err-n c =
+    let p = err_from_is_err_and c.from_residual.result c.from_residual.ensures.1 in
+    let h = c.in_err-n.ensures in
+    rw (p.1, p.2, h.is) (search distl_atom)
 
-pub returns-in-Short : goal.returns-in-Short
-returns-in-Short c = search distl_short
+pub returns-in_err-space : goal.returns-in_err-space
+returns-in_err-space c =
+    let h = c.in_ok-n.ensures in
+    let p = err_from_is_err_and c.from_residual-in_err-space.result c.from_residual-in_err-space.ensures.1 in
+    rw (p.1, p.2) (search (distl_short, c.in_err-space.ensures))
 
-pub returns-in-At : goal.returns-in-At
-returns-in-At c = search distl_is
+pub returns : goal.returns
+returns c =
+    let h = c.in_ok-n.ensures in
+    search (distl_is, c.in_ok-space.ensures)

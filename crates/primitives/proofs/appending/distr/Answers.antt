@@ -1,12 +1,21 @@
 -- `distr` answers as its word means.
+use Rattle.std.proofs.lemmas.Result.{err_from_is_err_and}
 use Rattle.primitives.proofs.Made.{distr_atom, distr_short, distr_is}
 use Rattle.primitives.proofs.appending.distr.Goals as goal
 
-pub returns-then-a-ne-SEQUENCE : goal.returns-then-a-ne-SEQUENCE
-returns-then-a-ne-SEQUENCE c = search distr_atom
+pub returns-in_err-n : goal.returns-in_err-n
+returns-in_err-n c =
+    let p = err_from_is_err_and c.from_residual.result c.from_residual.ensures.1 in
+    let h = c.in_err-n.ensures in
+    rw (p.1, p.2, h.is) (search distr_atom)
 
-pub returns-in-Short : goal.returns-in-Short
-returns-in-Short c = search distr_short
+pub returns-in_err-space : goal.returns-in_err-space
+returns-in_err-space c =
+    let h = c.in_ok-n.ensures in
+    let p = err_from_is_err_and c.from_residual-in_err-space.result c.from_residual-in_err-space.ensures.1 in
+    rw (p.1, p.2) (search (distr_short, c.in_err-space.ensures))
 
-pub returns-in-At : goal.returns-in-At
-returns-in-At c = search distr_is
+pub returns : goal.returns
+returns c =
+    let h = c.in_ok-n.ensures in
+    search (distr_is, c.in_ok-space.ensures)

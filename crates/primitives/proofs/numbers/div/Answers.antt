@@ -1,23 +1,15 @@
 -- `div` answers as its word means.
-use Rattle.std.proofs.lemmas.Bool.{not_from_true}
-use Rattle.primitives.proofs.Numbered.{first_no, second_no, on_div, div-zero, div_end, not-zero, sum_fits}
-use Rattle.primitives.proofs.Shaped.{short_of, small_of}
+use Rattle.std.proofs.lemmas.Result.{err_from_is_err_and}
+use Rattle.primitives.proofs.Numbered.{no_ints, on_div, div_end, div-zero}
 use Rattle.primitives.proofs.numbers.div.Goals as goal
 
-pub returns-then-not-is_integer : goal.returns-then-not-is_integer
-returns-then-not-is_integer c = search (first_no, on_div)
-
-pub returns-then-not-is_integer-2 : goal.returns-then-not-is_integer-2
-returns-then-not-is_integer-2 c = search (second_no, on_div)
-
-pub overflow_add-b : goal.overflow_add-b
-overflow_add-b c = record { fits = search (sum_fits, short_of) }
+pub returns-in_err-both_integers : goal.returns-in_err-both_integers
+returns-in_err-both_integers c =
+    let p = err_from_is_err_and c.from_residual.result c.from_residual.ensures.1 in
+    rw (p.1, p.2) (search (no_ints, on_div, c.in_err-both_integers.ensures))
 
 pub returns-then-b-eq0 : goal.returns-then-b-eq0
-returns-then-b-eq0 c = search (div-zero, short_of)
-
-pub divide-requires : goal.divide-requires
-divide-requires c = (small_of (short_of c.is_integer.ensures (not_from_true _ c.if-not-is_integer.false)), small_of (short_of c.is_integer-2.ensures (not_from_true _ c.if-not-is_integer-2.false)), not-zero _ c.if-b-eq0.false)
+returns-then-b-eq0 c = rw c.bottom.ensures (search (div-zero, c.in_ok-both_integers.ensures))
 
 pub returns : goal.returns
-returns c = search (div_end, short_of)
+returns c = search (div_end, c.in_ok-both_integers.ensures)

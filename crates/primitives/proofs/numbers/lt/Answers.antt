@@ -1,13 +1,12 @@
 -- `lt` answers as its word means.
-use Rattle.primitives.proofs.Numbered.{first_no, second_no, on_lt, lt_end}
-use Rattle.primitives.proofs.Shaped.{short_of}
+use Rattle.std.proofs.lemmas.Result.{err_from_is_err_and}
+use Rattle.primitives.proofs.Numbered.{no_ints, on_lt, lt_end}
 use Rattle.primitives.proofs.numbers.lt.Goals as goal
 
-pub returns-then-not-is_integer : goal.returns-then-not-is_integer
-returns-then-not-is_integer c = search (first_no, on_lt)
-
-pub returns-then-not-is_integer-2 : goal.returns-then-not-is_integer-2
-returns-then-not-is_integer-2 c = search (second_no, on_lt)
+pub returns-in_err-both_integers : goal.returns-in_err-both_integers
+returns-in_err-both_integers c =
+    let p = err_from_is_err_and c.from_residual.result c.from_residual.ensures.1 in
+    rw (p.1, p.2) (search (no_ints, on_lt, c.in_err-both_integers.ensures))
 
 pub returns : goal.returns
-returns c = search (lt_end, short_of)
+returns c = search (lt_end, c.in_ok-both_integers.ensures)

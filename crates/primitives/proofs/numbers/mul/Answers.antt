@@ -1,17 +1,12 @@
 -- `mul` answers as its word means.
-use Rattle.std.proofs.lemmas.Bool.{not_from_true}
-use Rattle.primitives.proofs.Numbered.{first_no, second_no, on_mul, mul_end}
-use Rattle.primitives.proofs.Shaped.{short_of, small_of}
+use Rattle.std.proofs.lemmas.Result.{err_from_is_err_and}
+use Rattle.primitives.proofs.Numbered.{no_ints, on_mul, mul_end}
 use Rattle.primitives.proofs.numbers.mul.Goals as goal
 
-pub returns-then-not-is_integer : goal.returns-then-not-is_integer
-returns-then-not-is_integer c = search (first_no, on_mul)
-
-pub returns-then-not-is_integer-2 : goal.returns-then-not-is_integer-2
-returns-then-not-is_integer-2 c = search (second_no, on_mul)
-
-pub multiply-requires : goal.multiply-requires
-multiply-requires c = (small_of (short_of c.is_integer.ensures (not_from_true _ c.if-not-is_integer.false)), small_of (short_of c.is_integer-2.ensures (not_from_true _ c.if-not-is_integer-2.false)))
+pub returns-in_err-both_integers : goal.returns-in_err-both_integers
+returns-in_err-both_integers c =
+    let p = err_from_is_err_and c.from_residual.result c.from_residual.ensures.1 in
+    rw (p.1, p.2) (search (no_ints, on_mul, c.in_err-both_integers.ensures))
 
 pub returns : goal.returns
-returns c = search (mul_end, short_of)
+returns c = search (mul_end, c.in_ok-both_integers.ensures)

@@ -1,15 +1,13 @@
 -- `select` answers as the selector k means.
-use Rattle.primitives.proofs.Selected.{select_atom, select_zero, select_far, select_is}
+use Rattle.std.proofs.lemmas.Result.{err_from_is_err_and}
+use Rattle.primitives.proofs.Selected.{select_none, select_is}
 use Rattle.primitives.proofs.selectors.select.Goals as goal
 
-pub returns-then-v-ne-SEQUENCE : goal.returns-then-v-ne-SEQUENCE
-returns-then-v-ne-SEQUENCE c = search select_atom
-
-pub returns-then-k-eq0 : goal.returns-then-k-eq0
-returns-then-k-eq0 c = search select_zero
-
-pub returns-then-size-k : goal.returns-then-size-k
-returns-then-size-k c = search select_far
+pub returns-in_err-places_to : goal.returns-in_err-places_to
+returns-in_err-places_to c =
+    let p = err_from_is_err_and c.from_residual.result c.from_residual.ensures.1 in
+    let h = c.in_err-places_to.ensures in
+    rw (p.1, p.2, h.is) (select_none h.none)
 
 pub returns : goal.returns
-returns c = search select_is
+returns c = search (select_is, c.in_ok-places_to.ensures)

@@ -1,15 +1,13 @@
 -- `select_right` answers as the selector kr means.
-use Rattle.primitives.proofs.Selected.{right_atom, right_zero, right_past, right_is}
+use Rattle.std.proofs.lemmas.Result.{err_from_is_err_and}
+use Rattle.primitives.proofs.Selected.{right_none, right_is}
 use Rattle.primitives.proofs.selectors.select_right.Goals as goal
 
-pub returns-then-v-ne-SEQUENCE : goal.returns-then-v-ne-SEQUENCE
-returns-then-v-ne-SEQUENCE c = search right_atom
-
-pub returns-then-k-eq0 : goal.returns-then-k-eq0
-returns-then-k-eq0 c = search right_zero
-
-pub returns-then-n-k : goal.returns-then-n-k
-returns-then-n-k c = search right_past
+pub returns-in_err-n : goal.returns-in_err-n
+returns-in_err-n c =
+    let p = err_from_is_err_and c.from_residual.result c.from_residual.ensures.1 in
+    let h = c.in_err-n.ensures in
+    rw (p.1, p.2, h.is) (right_none h.none)
 
 pub returns : goal.returns
-returns c = search right_is
+returns c = search (right_is, c.in_ok-n.ensures)

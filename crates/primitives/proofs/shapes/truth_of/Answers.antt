@@ -1,15 +1,12 @@
 -- `truth_of` reads T, F or neither.
-use Rattle.primitives.proofs.Shaped.{truth_none, truth_read_t, truth_read_f, truth_other}
+use Rattle.primitives.proofs.Shaped.{truth_read_t, truth_read_f, truth_other}
 use Rattle.primitives.proofs.shapes.truth_of.Goals as goal
 
-pub returns-then-v-ne-SYMBOL : goal.returns-then-v-ne-SYMBOL
-returns-then-v-ne-SYMBOL c = search truth_none
+pub returns-in-20 : goal.returns-in-20
+returns-in-20 c = search truth_read_t
 
-pub returns-then-v-eq-TRUE : goal.returns-then-v-eq-TRUE
-returns-then-v-eq-TRUE c = search truth_read_t
+pub returns-in-6 : goal.returns-in-6
+returns-in-6 c = search truth_read_f
 
-pub returns-then-v-eq-FALSE : goal.returns-then-v-eq-FALSE
-returns-then-v-eq-FALSE c = search truth_read_f
-
-pub returns : goal.returns
-returns c = search truth_other
+pub returns-in_default : goal.returns-in_default
+returns-in_default c = search truth_other

@@ -1,15 +1,12 @@
 -- `and` answers as its word means.
-use Rattle.primitives.proofs.Judged.{first_neither, second_neither, on_and, and_first_f, and_second_is}
+use Rattle.std.proofs.lemmas.Result.{err_from_is_err_and}
+use Rattle.primitives.proofs.Judged.{no_truths, on_and, and_is}
 use Rattle.primitives.proofs.truths.and.Goals as goal
 
-pub returns-then-x-eq2 : goal.returns-then-x-eq2
-returns-then-x-eq2 c = search (first_neither, on_and)
-
-pub returns-then-y-eq2 : goal.returns-then-y-eq2
-returns-then-y-eq2 c = search (second_neither, on_and)
-
-pub returns-then-x-eq0 : goal.returns-then-x-eq0
-returns-then-x-eq0 c = search and_first_f
+pub returns-in_err-x : goal.returns-in_err-x
+returns-in_err-x c =
+    let p = err_from_is_err_and c.from_residual.result c.from_residual.ensures.1 in
+    rw (p.1, p.2) (search (no_truths, on_and, c.in_err-x.ensures))
 
 pub returns : goal.returns
-returns c = search and_second_is
+returns c = search (and_is, c.in_ok-x.ensures)

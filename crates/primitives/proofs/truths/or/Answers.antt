@@ -1,15 +1,12 @@
 -- `or` answers as its word means.
-use Rattle.primitives.proofs.Judged.{first_neither, second_neither, on_or, or_first_t, or_second_is}
+use Rattle.std.proofs.lemmas.Result.{err_from_is_err_and}
+use Rattle.primitives.proofs.Judged.{no_truths, on_or, or_is}
 use Rattle.primitives.proofs.truths.or.Goals as goal
 
-pub returns-then-x-eq2 : goal.returns-then-x-eq2
-returns-then-x-eq2 c = search (first_neither, on_or)
-
-pub returns-then-y-eq2 : goal.returns-then-y-eq2
-returns-then-y-eq2 c = search (second_neither, on_or)
-
-pub returns-then-x-eq1 : goal.returns-then-x-eq1
-returns-then-x-eq1 c = search or_first_t
+pub returns-in_err-x : goal.returns-in_err-x
+returns-in_err-x c =
+    let p = err_from_is_err_and c.from_residual.result c.from_residual.ensures.1 in
+    rw (p.1, p.2) (search (no_truths, on_or, c.in_err-x.ensures))
 
 pub returns : goal.returns
-returns c = search or_second_is
+returns c = search (or_is, c.in_ok-x.ensures)

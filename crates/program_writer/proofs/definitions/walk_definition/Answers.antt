@@ -2,5 +2,5 @@
 use Rattle.program_writer.proofs.Programs.{definition_done}
 use Rattle.program_writer.proofs.definitions.walk_definition.Goals as goal
 
-pub returns : goal.returns
-returns c = search definition_done
+pub returns-clause-wrote : goal.returns-clause-wrote
+returns-clause-wrote c = search definition_done

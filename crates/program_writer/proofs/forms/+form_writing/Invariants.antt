@@ -1,6 +1,7 @@
 -- `walk_form`, `walk_parts` and `walk_part` walk over the text of what stands in the table. The measure is the records left, by
 -- three for each. The invariant: the parts' text is what was walked over and the text of the others. Assumes nothing.
 use Prim.Native.Nat.{◌+◌, ◌*◌, ◌-◌}
+use Rattle.program_writer.specs.Walks.{Kept}
 use Rattle.program_writer.proofs.FormWalks.{PartsLeft}
 use Rattle.program_writer.proofs.forms.+form_writing.Given as goal
 
@@ -14,7 +15,4 @@ abbrev pub decreases-walk_parts : goal.decreases-walk_parts
 decreases-walk_parts l = 3 * (2048 - l.from) + 2
 
 abbrev pub invariant-walk_parts-loop-left : goal.invariant-walk_parts-loop-left
-invariant-walk_parts-loop-left l = PartsLeft l.t l.c l.kind l.arity l.from l.start l.left l.i l.at l.initial.out l.out
-
-abbrev pub decreases-walk_parts-loop-left : goal.decreases-walk_parts-loop-left
-decreases-walk_parts-loop-left l = l.left
+invariant-walk_parts-loop-left l = (Kept l.initial.w l.w) × (PartsLeft l.t l.c l.kind l.arity l.from l.initial.w.at l.left l.i l.w.at l.initial.w.out.now l.w.out.now)

@@ -2,8 +2,8 @@
 use Rattle.program_writer.proofs.Rows.{end_none, end_bu}
 use Rattle.program_writer.proofs.forms.walk_ending.Goals as goal
 
-pub returns-then-kind-lt-BU : goal.returns-then-kind-lt-BU
-returns-then-kind-lt-BU c = search end_none
+pub returns-then-kind-lt-BU-clause-wrote : goal.returns-then-kind-lt-BU-clause-wrote
+returns-then-kind-lt-BU-clause-wrote c = search end_none
 
-pub returns : goal.returns
-returns c = search end_bu
+pub returns-clause-wrote : goal.returns-clause-wrote
+returns-clause-wrote c = search end_bu

@@ -1,15 +1,12 @@
 -- `walk_opening` walks over what stands before a form's parts. Assumes nothing.
-use Rattle.program_writer.proofs.Rows.{open_plain, open_none, open_constant, open_mark}
+use Rattle.program_writer.proofs.Rows.{open_parts, open_bu, open_constant}
 use Rattle.program_writer.proofs.forms.walk_opening.Goals as goal
 
-pub returns-then-kind-lt-CHAIN : goal.returns-then-kind-lt-CHAIN
-returns-then-kind-lt-CHAIN c = search open_plain
+pub returns-then-kind-le-WHILE-clause-wrote : goal.returns-then-kind-le-WHILE-clause-wrote
+returns-then-kind-le-WHILE-clause-wrote c = search open_parts
 
-pub returns-then-b-eq0 : goal.returns-then-b-eq0
-returns-then-b-eq0 c = search open_none
+pub returns-then-kind-gt-LAST_CONSTANT-clause-wrote : goal.returns-then-kind-gt-LAST_CONSTANT-clause-wrote
+returns-then-kind-gt-LAST_CONSTANT-clause-wrote c = search open_bu
 
-pub returns-then-b-eq37 : goal.returns-then-b-eq37
-returns-then-b-eq37 c = search open_constant
-
-pub returns : goal.returns
-returns c = search open_mark
+pub returns-clause-wrote : goal.returns-clause-wrote
+returns-clause-wrote c = search open_constant

@@ -1,4 +1,4 @@
-use Rattle.program_writer.proofs.MarkWalks.{depth_out, depth_flat, depth_open, depth_plain, depth_free, depth_bracketed, depth_start, depth_turn, depth_end}
+use Rattle.program_writer.proofs.MarkWalks.{depth_out, depth_flat, depth_open, depth_plain, depth_free, depth_bracketed, depth_turn, depth_end}
 use Rattle.program_writer.proofs.marks.+marks_of_forms.Goals as goal
 
 pub form_marks-returns-then-i-ge-RECORDS : goal.form_marks-returns-then-i-ge-RECORDS
@@ -19,11 +19,8 @@ part_marks-returns-then-not-takes_part t c = search depth_free
 pub part_marks-returns : goal.part_marks-returns
 part_marks-returns t c = search depth_bracketed
 
-pub parts_marks-loop-left-init : goal.parts_marks-loop-left-init
-parts_marks-loop-left-init t c = search depth_start
-
-pub parts_marks-loop-left-preserved : goal.parts_marks-loop-left-preserved
-parts_marks-loop-left-preserved t c = search depth_turn
+pub parts_marks-loop-preserved : goal.parts_marks-loop-preserved
+parts_marks-loop-preserved t c = search depth_turn
 
 pub parts_marks-returns : goal.parts_marks-returns
 parts_marks-returns t c = search depth_end

@@ -13,8 +13,5 @@ decreases-part_marks l = 3 * (2048 - l.i) + 1
 abbrev pub decreases-parts_marks : goal.decreases-parts_marks
 decreases-parts_marks l = 3 * (2048 - l.from) + 2
 
-abbrev pub invariant-parts_marks-loop-left : goal.invariant-parts_marks-loop-left
-invariant-parts_marks-loop-left l = DepthLeft l.t l.c l.kind l.arity l.from l.left l.i l.most
-
-abbrev pub decreases-parts_marks-loop-left : goal.decreases-parts_marks-loop-left
-decreases-parts_marks-loop-left l = l.left
+abbrev pub invariant-parts_marks-loop : goal.invariant-parts_marks-loop
+invariant-parts_marks-loop l = DepthLeft l.t l.c l.kind l.arity l.from l.counter l.i l.most

@@ -10,8 +10,5 @@ decreases-object_marks l = 2 * l.limit
 abbrev pub decreases-places_marks : goal.decreases-places_marks
 decreases-places_marks l = 2 * l.limit + 1
 
-abbrev pub invariant-places_marks-loop-left : goal.invariant-places_marks-loop-left
-invariant-places_marks-loop-left l = PlacesLeft l.c l.initial.s l.limit l.left l.s l.most
-
-abbrev pub decreases-places_marks-loop-left : goal.decreases-places_marks-loop-left
-decreases-places_marks-loop-left l = l.left
+abbrev pub invariant-places_marks-loop : goal.invariant-places_marks-loop
+invariant-places_marks-loop l = PlacesLeft l.c l.initial.s l.limit l.end l.counter l.s l.most

@@ -4,8 +4,8 @@ use lib.ListN.{length}
 use Rattle.programs.proofs.Defining.{Defining}
 use Rattle.programs.proofs.definitions.read_definitions.Given as goal
 
-abbrev pub invariant-loop-at : goal.invariant-loop-at
-invariant-loop-at l = Defining l.s l.initial.t l.initial.c l.initial.d l.at l.n l.used l.k l.t l.c l.d
+abbrev pub invariant-loop-upto : goal.invariant-loop-upto
+invariant-loop-upto l = Defining l.s l.initial.t l.initial.c l.initial.d l.upto.next l.upto.forms l.upto.cells l.k l.t l.c l.d
 
-abbrev pub decreases-loop-at : goal.decreases-loop-at
-decreases-loop-at l = length l.s - l.at
+abbrev pub decreases-loop-upto : goal.decreases-loop-upto
+decreases-loop-upto l = length l.s - l.upto.next

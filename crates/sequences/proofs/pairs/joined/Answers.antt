@@ -5,5 +5,5 @@ use Rattle.sequences.proofs.pairs.joined.Goals as goal
 pub returns-then-first : goal.returns-then-first
 returns-then-first c = search joined_first
 
-pub returns : goal.returns
-returns c = search joined_second
+pub returns-else-first : goal.returns-else-first
+returns-else-first c = search joined_second

@@ -1,12 +1,10 @@
 -- `put_before` puts one place before a sequence.
-use Rattle.sequences.proofs.Building.{before_far, before_long, before_is}
+use native.Mathlib.Omega.{arith}
+use Rattle.sequences.proofs.Building.{before_long, before_is}
 use Rattle.sequences.proofs.places.put_before.Goals as goal
 
-pub returns-then-p-gt4294967294 : goal.returns-then-p-gt4294967294
-returns-then-p-gt4294967294 c = search before_far
-
-pub returns-then-n-gt4294967294 : goal.returns-then-n-gt4294967294
-returns-then-n-gt4294967294 c = search before_long
+pub returns-in_default-checked_add : goal.returns-in_default-checked_add
+returns-in_default-checked_add c = before_long c.size.ensures c.in_default-checked_add.ensures
 
 pub returns : goal.returns
-returns c = search before_is
+returns c = before_is c.size.ensures c.low.ensures c.put_cell.ensures (grind arith) (grind arith) c.sequence.ensures

@@ -1,17 +1,15 @@
-use Rattle.sequences.proofs.Transposing.{rows_start, rows_atom, rows_uneven, rows_next, rows_end}
+use Rattle.sequences.proofs.Transposing.{rows_atom, rows_uneven, rows_next, rows_end}
+use Rattle.sequences.proofs.rows.are_rows.Goals.{then-not-is_sequence-via-then-not-is_sequence, then-not-is_sequence-via-else-not-is_sequence+then-size-w}
 use Rattle.sequences.proofs.rows.are_rows.Goals as goal
 
-pub loop-left-init : goal.loop-left-init
-loop-left-init c = search rows_start
-
 pub returns-then-not-is_sequence : goal.returns-then-not-is_sequence
-returns-then-not-is_sequence c = search rows_atom
+returns-then-not-is_sequence c = elim c.then-not-is_sequence.branch [
+  | then-not-is_sequence-via-then-not-is_sequence w ↦ search rows_atom
+  | then-not-is_sequence-via-else-not-is_sequence+then-size-w w ↦ search rows_uneven
+]
 
-pub returns-then-size-w : goal.returns-then-size-w
-returns-then-size-w c = search rows_uneven
-
-pub loop-left-preserved : goal.loop-left-preserved
-loop-left-preserved c = search rows_next
+pub loop-preserved : goal.loop-preserved
+loop-preserved c = search rows_next
 
 pub returns : goal.returns
 returns c = search rows_end

@@ -4,6 +4,3 @@ use Rattle.sequences.proofs.rows.listed.Given as goal
 
 abbrev pub invariant-loop-left : goal.invariant-loop-left
 invariant-loop-left l = Listing l.initial.c l.first l.n l.w l.p l.c l.s l.left l.free
-
-abbrev pub decreases-loop-left : goal.decreases-loop-left
-decreases-loop-left l = l.left

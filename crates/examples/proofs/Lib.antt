@@ -1,2 +1,0 @@
--- The laws that the proofs of examples cite.
-pub mod Further

@@ -1,2 +1,0 @@
--- What the proofs of several functions may cite: what is written back lies within the output.
-mod Insides
