@@ -6,7 +6,7 @@ use language::FORM_TABLE_SIZE;
 use lexer::Primitive;
 
 // What stands at each mark: a form of this kind, which holds this word `before` times, and then what stands deeper.
-#[derive(Clone, Copy)]
+#[derive(Clone, Copy, Debug, PartialEq, Eq)]
 pub struct Level {
     pub kind: Kind,
     pub before: u32,
@@ -60,7 +60,7 @@ fn put_level(f: &mut [u32; FORM_TABLE_SIZE], level: Level, b: u32)
 
 // 32 levels, and at the end a chain of id and the name.
 pub fn body(level: Level) -> [u32; FORM_TABLE_SIZE] {
-    let mut f = [0; 8192];
+    let mut f = [0; FORM_TABLE_SIZE];
     for depth in 0..32 {
         put_level(&mut f, level, 5 * depth);
     }

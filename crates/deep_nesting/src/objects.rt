@@ -8,7 +8,7 @@ fn put(c: &mut [u32; CELL_TABLE_SIZE], i: u32, next: u32, link: u32) {
 
 // Cells that hold a number within 3,500 sequences of one place each, and behind them the pair of that object and itself.
 pub fn deep_pair() -> [u32; CELL_TABLE_SIZE] {
-    let mut c = [0; 16384];
+    let mut c = [0; CELL_TABLE_SIZE];
     for k in 0..3499 {
         put(&mut c, k, 0, k + 2);
     }

@@ -1,14 +1,15 @@
 -- Forms that stand in a table stand in a copy of its first 8,192 numbers too.
-use Prim.Native.Nat.{ℕ, ◌+◌, ◌*◌, ◌/◌, ◌%◌, ◌≤◌, ◌<◌}
+use Prim.Native.Nat.{ℕ, ◌+◌, ◌-◌, ◌*◌, ◌/◌, ◌%◌, ◌≤◌, ◌<◌, min}
 use native.Mathlib.Omega.{arith}
-use mathlib.Core.Path.{◌≡◌, refl, sym, ap, subst, ◌∙◌}
-use mathlib.Core.List.{List}
+use mathlib.Core.Path.{◌≡◌, refl, sym, ap, ◌∙◌}
+use mathlib.Core.List.{List, ◌++◌}
 use mathlib.Core.Option.{Option}
 use borrow.Author.Tests.{leb-true, leb-false}
 use mathlib.Core.Bool.{Bool, true, false}
 use lib.Dec.{leb}
-use lib.ListN.{get_or, length, set, length-set}
-use lib.Seq.{get_or-set_same, get_or-set_other}
+use lib.ListN.{get_or, length, take, drop, replicate, get_or-append, get_or-eq_default}
+use lib.Seq.{get_or-take, get_or-drop, get_or-append-add, length-take-le}
+use Rattle.std.proofs.lemmas.List.{get_or-replicate}
 use Rattle.language.specs.Objects.{Obj}
 use Rattle.language.specs.Forms.{Form, Forms}
 use Rattle.tables.specs.Tables.{field}
@@ -66,25 +67,31 @@ module _ {F T C : List ℕ} {n : ℕ} {root : List ℕ → ℕ} (c : FormsCopied
   def_copied (no_def e) = no_def e
   def_copied (a_def e p) = a_def e (form_copied p)
 
--- ---- numbers copied one after the other: those below i are as in F
-pub record Copying (F T : List ℕ) (i : ℕ) : Type 0 where
-  pub most : i ≤ 8192
-  pub long : length T ≡ 8192
-  pub same : (j : ℕ) → j < i → get_or T j 0 ≡ get_or F j 0
-
-pub copy_start : {F T : List ℕ} → length T ≡ 8192 → Copying F T 0
-copy_start l = record { most = omega arith; long = l; same = λ j h. absurd (omega arith) }
-
-pub copy_turn : {F T : List ℕ} {i v : ℕ} → i < 8192 → v ≡ get_or F i 0 → Copying F T i → Copying F (set T i v) (i + 1)
-copy_turn {F} {T} {i} {v} l e c = record {
-  most = omega arith;
-  long = length-set T i v ∙ c.long;
-  same = λ j h. one j h (leb i j) refl;
-}
+-- ---- the first n numbers copied before what stands behind them in a table of 0
+pub copied_is : {F Z part : List ℕ} {n : ℕ} → n ≡ min (length F) 8192 → Z ≡ replicate 8192 0 → part ≡ take n F → FormsCopied F (part ++ drop n Z)
+copied_is {F} {Z} {part} {n} m z e = record { same = λ j h. one j h (leb n j) refl }
   where
-    one : (j : ℕ) → j < i + 1 → (b : Bool) → leb i j ≡ b → get_or (set T i v) j 0 ≡ get_or F j 0
-    one j h true q = subst (λ (n : ℕ). get_or (set T i v) n 0 ≡ get_or F n 0) (omega (arith, leb-true i j q)) (get_or-set_same T i v 0 (omega (arith, c.long)) ∙ e)
-    one j h false q = get_or-set_other T i j v 0 (λ z. absurd (omega (arith, leb-false i j q))) ∙ c.same j (leb-false i j q)
+    low : n ≤ length F
+    low = omega arith
 
-pub copy_end : {F T : List ℕ} {i : ℕ} → 8192 ≤ i → Copying F T i → FormsCopied F T
-copy_end l c = record { same = λ j h. c.same j (omega (arith, c.most)) }
+    long : length part ≡ n
+    long = ap (λ (l : List ℕ). length l) e ∙ length-take-le n F low
+
+    one : (j : ℕ) → j < 8192 → (b : Bool) → leb n j ≡ b → get_or (part ++ drop n Z) j 0 ≡ get_or F j 0
+    one j h true q =
+        let l : n ≤ j = leb-true n j q in
+        let a : j ≡ length part + (j - n) = omega (arith, long) in
+        let b : n + (j - n) ≡ j = omega arith in
+        let p : length F ≤ j = omega arith in
+        ap (λ (k : ℕ). get_or (part ++ drop n Z) k 0) a
+        ∙ get_or-append-add part (drop n Z) (j - n) 0
+        ∙ get_or-drop n Z (j - n) 0
+        ∙ ap (λ (k : ℕ). get_or Z k 0) b
+        ∙ ap (λ (l : List ℕ). get_or l j 0) z
+        ∙ get_or-replicate 8192 j 0 0 h
+        ∙ sym (get_or-eq_default F 0 p)
+    one j h false q =
+        let l : j < n = leb-false n j q in
+        get_or-append part (drop n Z) 0 j (omega (arith, long))
+        ∙ ap (λ (l : List ℕ). get_or l j 0) e
+        ∙ get_or-take n F j 0 l

@@ -1,5 +1,5 @@
 // A whole run.
-ghost use Rattle.std.specs.Prelude.{◌≡◌, length};
+ghost use Rattle.std.specs.Prelude.{◌≡◌, length, replicate};
 ghost use Rattle.language.specs.Numbers.{cell_limit, form_table_size, cell_table_size};
 ghost use Rattle.evaluator.specs.Applying.{Ran, FormsCopied};
 
@@ -29,15 +29,14 @@ fn copied(forms: &[u32]) -> [u32; FORM_TABLE_SIZE]
     ensures { FormsCopied forms.now result }
 {
     let mut f = empty();
-    for i in 0..FORM_TABLE_SIZE {
-        f[i] = tables::at(forms, i);
-    }
+    let n = forms.len().min(FORM_TABLE_SIZE);
+    f[..n].copy_from_slice(&forms[..n]);
     f
 }
 
-// A table of 8,192 numbers.
+// A table of 8,192 numbers, all 0.
 fn empty() -> [u32; FORM_TABLE_SIZE]
-    ensures { length result ≡ form_table_size }
+    ensures { result ≡ replicate form_table_size 0 }
 {
     [0; FORM_TABLE_SIZE]
 }

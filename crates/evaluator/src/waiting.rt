@@ -3,14 +3,11 @@ ghost use Rattle.std.specs.Prelude.{◌≡◌, ◌+◌, ◌%◌};
 ghost use Rattle.language.specs.Numbers.{cell_limit};
 ghost use Rattle.evaluator.specs.Applying.{Collected, Spread};
 
-use language::{Meter, Stopped, Val};
+use language::{CELL_LIMIT, CELL_TABLE_SIZE, Meter, Stopped, Val};
 use primitives::Reached;
 
-// How many values may wait.
-const PLACES: u64 = 4096;
-
-// The numbers of the ring, four to each place.
-pub const RING_SIZE: usize = 16384;
+// The numbers of the ring, four to each of the 4,096 places in which values may wait.
+pub const RING_SIZE: usize = CELL_TABLE_SIZE;
 
 // What a question says, and what is left of the budgets.
 #[derive(Clone, Copy, Debug, PartialEq, Eq)]
@@ -23,7 +20,7 @@ pub struct Asked {
 pub fn place(top: u32, q: u32) -> u32
     ensures { result ≡ (top + q) % cell_limit }
 {
-    ((top as u64 + q as u64) % PLACES) as u32
+    ((u64::from(top) + u64::from(q)) % u64::from(CELL_LIMIT)) as u32
 }
 
 // The sequence of the many values that wait from top on, with a cell for each.

@@ -1,7 +1,7 @@
 -- A name's root: found from the first definition on, or along the links of the index.
 use Prim.Native.Nat.{ℕ, zero, suc, ◌+◌, ◌-◌, ◌*◌, ◌%◌, ◌≤◌, ◌<◌}
 use native.Mathlib.Omega.{arith}
-use mathlib.Core.Path.{◌≡◌, refl, sym, ap, ◌∙◌}
+use mathlib.Core.Path.{◌≡◌, refl, sym, ap, subst, ◌∙◌}
 use mathlib.Core.Bool.{Bool, true, false, cond}
 use mathlib.Core.List.{List}
 use lib.Dec.{eqb}
@@ -10,27 +10,28 @@ use lib.Seq.{get_or-set_same, get_or-set_other}
 use borrow.Author.Tests.{ne_eqb, eqb-true, eqb-false}
 use Rattle.tables.specs.Tables.{field}
 use Rattle.formtable.specs.Encoding.{named}
-use Rattle.std.specs.Prelude.{Some}
+use Rattle.std.specs.Prelude.{Option, None, Some}
+use Rattle.std.specs.Option.{MatchOption}
 use Rattle.linker.specs.Roots.{root_by, root_from}
 use Rattle.linker.specs.Indexing.{low_at, Leads, Entered, Indexed}
 
 -- what is found from here on is what is found from the start on
-pub record Finding (D : List ℕ) (many lo hi d : ℕ) : Type 0 where
-  pub most : d ≤ many
-  pub whole : root_from D many lo hi 0 ≡ root_from D (many - d) lo hi d
+record Finding (D : List ℕ) (many lo hi d : ℕ) : Type 0 where
+  most : d ≤ many
+  whole : root_from D many lo hi 0 ≡ root_from D (many - d) lo hi d
 
 one_here : (D : List ℕ) (left lo hi d : ℕ) → 0 < left → root_from D left lo hi d ≡ cond (named D d lo hi) ((field D d 2 + 1) % 4294967296) (root_from D (left - 1) lo hi (d + 1))
 unfolding root_from
 one_here D zero lo hi d h = absurd (omega arith)
 one_here D (suc left) lo hi d h = let z : suc left - 1 ≡ left = omega arith in rw z
 
-pub find_next : {D : List ℕ} {many lo hi d : ℕ} {b : Bool} → d < many → Finding D many lo hi d → b ≡ named D d lo hi → b ≡ false → Finding D many lo hi (d + 1)
+find_next : {D : List ℕ} {many lo hi d : ℕ} {b : Bool} → d < many → Finding D many lo hi d → b ≡ named D d lo hi → b ≡ false → Finding D many lo hi (d + 1)
 find_next {D} {many} {lo} {hi} {d} l w e f = record {
   most = omega arith;
   whole = w.whole ∙ one_here D (many - d) lo hi d (omega arith) ∙ ap (λ x. cond x ((field D d 2 + 1) % 4294967296) (root_from D (many - d - 1) lo hi (d + 1))) (sym e ∙ f) ∙ ap (λ (k : ℕ). root_from D k lo hi (d + 1)) (omega arith);
 }
 
-pub find_here : {D : List ℕ} {many lo hi d : ℕ} {b : Bool} → d < many → Finding D many lo hi d → b ≡ named D d lo hi → b ≡ true → root_by D (Some d) ≡ root_from D many lo hi 0
+find_here : {D : List ℕ} {many lo hi d : ℕ} {b : Bool} → d < many → Finding D many lo hi d → b ≡ named D d lo hi → b ≡ true → root_by D (Some d) ≡ root_from D many lo hi 0
 find_here {D} {many} {lo} {hi} {d} l w e f = sym (w.whole ∙ one_here D (many - d) lo hi d (omega arith) ∙ ap (λ x. cond x ((field D d 2 + 1) % 4294967296) (root_from D (many - d - 1) lo hi (d + 1))) (sym e ∙ f))
 
 none_here : (D : List ℕ) (left lo hi d : ℕ) → left ≡ 0 → root_from D left lo hi d ≡ 0
@@ -38,8 +39,22 @@ unfolding root_from
 none_here D zero lo hi d h = refl
 none_here D (suc left) lo hi d h = absurd (omega arith)
 
-pub find_end : {D : List ℕ} {many lo hi d : ℕ} → many ≤ d → Finding D many lo hi d → 0 ≡ root_from D many lo hi 0
+find_end : {D : List ℕ} {many lo hi d : ℕ} → many ≤ d → Finding D many lo hi d → 0 ≡ root_from D many lo hi 0
 find_end {D} {many} {lo} {hi} {d} l w = sym (w.whole ∙ none_here D (many - d) lo hi d (omega arith))
+
+-- where no definition before d has the name, what is found from d on is what is found from the start on
+none_before : (D : List ℕ) (many lo hi d : ℕ) → d ≤ many → ((k : ℕ) → k < d → false ≡ named D k lo hi) → Finding D many lo hi d
+none_before D many lo hi zero l h = record { most = omega arith; whole = ap (λ (k : ℕ). root_from D k lo hi 0) (omega arith) }
+none_before D many lo hi (suc d) l h =
+    let z : d + 1 ≡ suc d = omega arith in
+    subst (λ (j : ℕ). Finding D many lo hi j) z (find_next {b = false} (omega arith) (none_before D many lo hi d (omega arith) (λ k m. h k (omega arith))) (h d (omega arith)) refl)
+
+-- the first definition that has the name, if any has it
+pub first_root : (D : List ℕ) (many lo hi : ℕ) (r : Option ℕ)
+    → MatchOption r ((k : ℕ) → 0 ≤ k → k < many → false ≡ named D k lo hi) (λ i. (0 ≤ i) × (i < many) × (true ≡ named D i lo hi) × ((k : ℕ) → 0 ≤ k → k < i → false ≡ named D k lo hi))
+    → root_by D r ≡ root_from D many lo hi 0
+first_root D many lo hi None h = find_end {d = many} (omega arith) (none_before D many lo hi many (omega arith) (λ k m. h k (omega arith) m))
+first_root D many lo hi (Some i) h = find_here {b = true} h.1 (none_before D many lo hi i (omega (arith, h.1)) (λ k m. h.3 k (omega arith) m)) h.2 refl
 
 -- ---- the index
 -- a link that leads to the definitions themselves

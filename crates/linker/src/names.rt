@@ -17,12 +17,7 @@ const INDEX_SIZE: usize = 384;
 fn definition_of(definitions: &[u32], count: u32, lo: u32, hi: u32) -> Option<u32>
     ensures { root_by definitions.now result ≡ root_from definitions.now count lo hi 0 }
 {
-    for d in 0..count {
-        if formtable::has_name(definitions, d, lo, hi) {
-            return Some(d);
-        }
-    }
-    None
+    (0..count).find(|d| formtable::has_name(definitions, *d, lo, hi))
 }
 
 // The record of the definition's body, and one; 0 if there is none. So it stands in a name's record.

@@ -62,7 +62,7 @@ pub fn div(a: Val, b: Val, m: Meter) -> Result<Reached, Stopped>
     ensures { PlainTwo a b m (op Op.div) result }
 {
     both_integers(a, b, m)?;
-    if b.word + b.tag as u64 == 0 {
+    if b.word + u64::from(b.tag) == 0 {
         return Err(Stopped::bottom(m));
     }
     ranged(arithmetic::divide(a, b), m)

@@ -94,12 +94,7 @@ fn is_earlier(d: &[u32], i: usize) -> bool
 {
     let lo = tables::at(d, i * 4);
     let hi = tables::at(d, i * 4 + 1);
-    for j in 0..i {
-        if formtable::has_name(d, j as u32, lo, hi) {
-            return true;
-        }
-    }
-    false
+    (0..i as u32).any(|j| formtable::has_name(d, j, lo, hi))
 }
 
 // The place of the first of n names that an earlier definition has, if any has.
@@ -107,12 +102,9 @@ fn find_twice(d: &[u32], n: usize) -> Option<usize>
     requires { n ≤ definition_limit }
     ensures { TwiceMet d.now n result }
 {
-    for i in 0..n {
-        if is_earlier(d, i) {
-            return Some(tables::at(d, i * 4 + 3) as usize);
-        }
-    }
-    None
+    (0..n)
+        .find(|i| is_earlier(d, *i))
+        .map(|i| tables::at(d, i * 4 + 3) as usize)
 }
 
 // A whole program: its forms in `t`, its constants in the cells `c`, its definitions in `d`.

@@ -35,7 +35,7 @@ fn read_room(file: &mut File, short: bool) -> io::Result<usize>
 fn reread_text(kind: Kind, text: &[u8], out: &mut [u8]) -> Result<usize, NotReread>
     ensures { Inside result out.new }
 {
-    let mut cells: [u32; 32768] = streams::filled(0);
+    let mut cells: [u32; rereading::CELLS_SIZE] = streams::filled(0);
     match kind {
         Kind::Object => rereading::reread_object(text, &mut cells, out),
         Kind::Program | Kind::Other => {

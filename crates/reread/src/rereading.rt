@@ -2,7 +2,11 @@
 ghost use Rattle.reread.specs.Rereading.{Inside};
 
 use super::NotReread;
-use language::{Refusal, RefusedText};
+use formtable::DEFINITION_TABLE_SIZE;
+use language::{FORM_TABLE_SIZE, Refusal, RefusedText};
+
+// The numbers of 8,192 cells.
+pub const CELLS_SIZE: usize = 32768;
 
 // A text that is too long, whatever it holds.
 fn too_long(refusal: Refusal) -> NotReread {
@@ -12,9 +16,9 @@ fn too_long(refusal: Refusal) -> NotReread {
 // A program: read to the tables, and from them written to the front of `out`.
 pub fn reread_program(
     s: &[u8],
-    forms: &mut [u32; 8192],
-    cells: &mut [u32; 32768],
-    definitions: &mut [u32; 512],
+    forms: &mut [u32; FORM_TABLE_SIZE],
+    cells: &mut [u32; CELLS_SIZE],
+    definitions: &mut [u32; DEFINITION_TABLE_SIZE],
     out: &mut [u8],
 ) -> Result<usize, NotReread>
     ensures { Inside result out.new }
@@ -28,7 +32,11 @@ pub fn reread_program(
 }
 
 // An object: read to the cells, and from them written to the front of `out`.
-pub fn reread_object(s: &[u8], cells: &mut [u32; 32768], out: &mut [u8]) -> Result<usize, NotReread>
+pub fn reread_object(
+    s: &[u8],
+    cells: &mut [u32; CELLS_SIZE],
+    out: &mut [u8],
+) -> Result<usize, NotReread>
     ensures { Inside result out.new }
 {
     if 16384 < s.len() {

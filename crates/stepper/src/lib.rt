@@ -7,7 +7,7 @@ ghost use Rattle.stepper.specs.Steps.{next_of, behind_word};
 
 use language::Token;
 
-#[derive(Clone, Copy)]
+#[derive(Clone, Copy, Debug, PartialEq, Eq)]
 pub struct Stepper<'a> {
     pub text: &'a [u8],
     pub place: usize,

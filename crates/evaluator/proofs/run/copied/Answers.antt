@@ -1,11 +1,6 @@
-use Rattle.evaluator.proofs.Copies.{copy_start, copy_turn, copy_end}
+-- `copied` meets its contract.
+use Rattle.evaluator.proofs.Copies.{copied_is}
 use Rattle.evaluator.proofs.run.copied.Goals as goal
 
-pub loop-i-init : goal.loop-i-init
-loop-i-init c = search copy_start
-
-pub loop-i-preserved : goal.loop-i-preserved
-loop-i-preserved c = search copy_turn
-
 pub returns : goal.returns
-returns c = search copy_end
+returns c = copied_is c.min-n.ensures c.empty-f.ensures c.copy_from_slice.ensures.after

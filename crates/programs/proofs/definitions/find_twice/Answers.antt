@@ -1,14 +1,16 @@
-use Rattle.programs.proofs.Naming.{single_starts, twice_found, twice_next, twice_none}
+-- `find_twice` asks of each name whether an earlier one is the same.
+use Rattle.std.proofs.Common.{rules, true, false, sym, subst}
+use Rattle.std.specs.Prelude.{Option, ℕ}
+use Rattle.std.proofs.lemmas.Iterator.{first_from_Range}
+use Rattle.tables.specs.Tables.{field}
+use Rattle.lexer.proofs.Words.{mapped}
+use Rattle.programs.proofs.Naming.{twice_by}
+use Rattle.programs.specs.Definitions.{Compared, TwiceMet}
 use Rattle.programs.proofs.definitions.find_twice.Goals as goal
 
-pub loop-i-init : goal.loop-i-init
-loop-i-init c = search single_starts
-
-pub returns-then-is_earlier : goal.returns-then-is_earlier
-returns-then-is_earlier c = search twice_found
-
-pub loop-i-preserved : goal.loop-i-preserved
-loop-i-preserved c = search twice_next
-
 pub returns : goal.returns
-returns c = search twice_none
+returns c =
+    let d = c.args.d.now in
+    let n = c.args.n in
+    let e = mapped (λ i. field d i 3) c.find.result c.map.result c.map.ensures.cases (λ x y h. search rules) in
+    subst (λ (r : Option ℕ). TwiceMet d n r) (sym e) (twice_by c.find.result (first_from_Range _ _ _ _ (λ i. Compared d i true) (λ i. Compared d i false) c.find.ensures.ran (λ x q k. search rules) (λ x q k. search rules)))
