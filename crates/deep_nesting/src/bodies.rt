@@ -1,5 +1,5 @@
 // Bodies of a name that hold 32 marks, and the name itself within all of them.
-ghost use Rattle.std.specs.Prelude.{◌<◌};
+ghost use Rattle.std.specs.Prelude.{◌≡◌, ◌<◌};
 
 use formtable::Kind;
 use language::FORM_TABLE_SIZE;
@@ -17,6 +17,7 @@ pub struct Level {
 impl Level {
     pub fn new(kind: Kind, before: u32, word: Primitive) -> Level
         requires before_bound { before < 3 }
+        ensures { (result.kind ≡ kind) × (result.before ≡ before) × (result.word ≡ word) }
     {
         Level { kind, before, word }
     }

@@ -56,7 +56,9 @@ pub struct Case {
 
 impl Case {
     // What has to stand at place i of a table, where all is v but the entry that the case names.
-    pub fn expected(&self, table: Table, i: usize, v: u32) -> u32 {
+    pub fn expected(&self, table: Table, i: usize, v: u32) -> u32
+        ensures { self.now.entry ≡ None → result ≡ v }
+    {
         match self.entry {
             Some(e) if e.table == table && e.place == i => e.value,
             _ => v,
@@ -99,7 +101,9 @@ pub fn read_entry(s: &[u8]) -> Option<Entry> {
 }
 
 // The case of this head.
-pub fn read_case(s: &[u8], entry: Option<Entry>) -> Case {
+pub fn read_case(s: &[u8], entry: Option<Entry>) -> Case
+    ensures { result.entry ≡ entry }
+{
     Case {
         program: number(s, 0),
         object: number(s, 1),

@@ -1,4 +1,6 @@
 // Where a case is not as expected.
+ghost use Rattle.std.specs.Prelude.{◌≡◌};
+
 use std::fmt;
 
 // What a case is compared in: the six numbers of its answer, the output, the form table, the cells lent and those behind them.
@@ -42,12 +44,16 @@ pub struct Difference {
 
 impl Difference {
     // In a number of the answer.
-    pub fn of(field: Field) -> Difference {
+    pub fn of(field: Field) -> Difference
+        ensures { (result.field ≡ field) × (result.place ≡ None) }
+    {
         Difference { field, place: None }
     }
 
     // In an entry of what was lent.
-    pub fn at(field: Field, place: usize) -> Difference {
+    pub fn at(field: Field, place: usize) -> Difference
+        ensures { (result.field ≡ field) × (result.place ≡ Some place) }
+    {
         Difference {
             field,
             place: Some(place),
