@@ -185,28 +185,28 @@ step-returns-in_err-k t c =
     rw (p.1, p.2) (search (apply_spent, c.in_err-k.ensures))
 
 pub step-name-requires : goal.step-name-requires
-step-name-requires t c = search (below_step, rules, c.in_ok-k.ensures)
+step-name-requires t c = (below_step _ _ t c.in_ok-k.ensures c.decreases, tt)
 
 pub step-chain-requires : goal.step-chain-requires
-step-chain-requires t c = search (below_step, rules, c.in_ok-k.ensures)
+step-chain-requires t c = (below_step _ _ t c.in_ok-k.ensures c.decreases, tt)
 
 pub step-construct-requires : goal.step-construct-requires
-step-construct-requires t c = search (below_step, rules, c.in_ok-k.ensures)
+step-construct-requires t c = (below_step _ _ t c.in_ok-k.ensures c.decreases, tt)
 
 pub step-insert-requires : goal.step-insert-requires
-step-insert-requires t c = search (below_step, rules, c.in_ok-k.ensures)
+step-insert-requires t c = (below_step _ _ t c.in_ok-k.ensures c.decreases, tt)
 
 pub step-each-requires : goal.step-each-requires
-step-each-requires t c = search (below_step, rules, c.in_ok-k.ensures)
+step-each-requires t c = (below_step _ _ t c.in_ok-k.ensures c.decreases, tt)
 
 pub step-condition-requires : goal.step-condition-requires
-step-condition-requires t c = search (below_step, rules, c.in_ok-k.ensures)
+step-condition-requires t c = (below_step _ _ t c.in_ok-k.ensures c.decreases, tt)
 
 pub step-repeat-requires : goal.step-repeat-requires
-step-repeat-requires t c = search (below_step, rules, c.in_ok-k.ensures)
+step-repeat-requires t c = (below_step _ _ t c.in_ok-k.ensures c.decreases, tt)
 
 pub step-bu-requires : goal.step-bu-requires
-step-bu-requires t c = search (below_step, rules, c.in_ok-k.ensures)
+step-bu-requires t c = (below_step _ _ t c.in_ok-k.ensures c.decreases, tt)
 
 pub step-returns-in-1 : goal.step-returns-in-1
 step-returns-in-1 t c = search (applied, on_word, c.in_ok-k.ensures)
