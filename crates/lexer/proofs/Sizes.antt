@@ -2,17 +2,19 @@
 use mathlib.Core.Path.{◌≡◌, refl, ap, sym, ◌∙◌}
 use mathlib.Core.Bool.{Bool, true, false, true≢false}
 use mathlib.Core.List.{List, [], ◌∷◌}
-use Prim.Native.Nat.{ℕ, zero, suc, min, ◌+◌, ◌-◌, ◌≤◌, ◌<◌}
+use Prim.Native.Nat.{ℕ, zero, suc, min, max, ◌+◌, ◌-◌, ◌≤◌, ◌<◌}
 use native.Mathlib.Omega.{arith}
-use borrow.Author.Tests.{eq-eqb, ne_eqb, le-leb, lt-leb}
+use borrow.Author.Tests.{eq-eqb, ne_eqb, le-leb, lt-leb, ltb-true, ltb-false}
 use Rattle.std.proofs.lemmas.Bool.{eqb-true}
 use Rattle.std.specs.List.{slice_range}
-use lib.Dec.{eqb}
+use Rattle.std.specs.Option.{MatchOption, unwrap_or}
+use Rattle.std.specs.Prelude.{Option, Some, None}
+use lib.Dec.{eqb, ltb}
 use lib.ListN.{length, get_or, drop, drop_of_length-le, length-drop}
 use Rattle.language.specs.declared.Token.{Token}
 use Rattle.language.specs.Tokens.{span, place_from, size, size_at, dash_size, token_from, is_blank, is_word_byte, is_digit}
 use Rattle.lexer.specs.Readings.{Skipped, WordSized, NextWord}
-use Rattle.lexer.proofs.Spans.{span_true, span_none, rest_is}
+use Rattle.lexer.proofs.Spans.{span_none, span_until, rest_is}
 
 -- A byte that passes a test which 0 does not pass is within the text.
 pub within : (P : ℕ → Bool) → P 0 ≡ false → (s : List ℕ) (p : ℕ) → P (get_or s p 0) ≡ true → p < length s
@@ -67,9 +69,11 @@ unfolding size
 sized_none [] h = refl
 sized_none (b ∷ w) h = absurd (omega arith)
 
-pub sized_word : (w : List ℕ) {t : Bool} {n : ℕ} → 1 ≤ length w → t ≡ is_word_byte (get_or w 0 0) → t ≡ true → n ≡ span is_word_byte w → n ≡ size w
+pub sized_word : (w : List ℕ) {t : Bool} {n : ℕ} → 1 ≤ length w → t ≡ is_word_byte (get_or w 0 0) → t ≡ true → n ≡ span is_word_byte (drop 1 w) → 1 + n ≡ size w
 sized_word [] some is h e = absurd (omega arith)
-sized_word (b ∷ w) some is h e = e ∙ span_true is_word_byte b w (sym is ∙ h) ∙ sym (size_word b w (sym is ∙ h))
+sized_word (b ∷ w) {t} {n} some is h e =
+    let k : 1 + n ≡ suc (span is_word_byte w) = omega (arith, e) in
+    k ∙ sym (size_word b w (sym is ∙ h))
 
 pub sized_other : (w : List ℕ) {t : Bool} → 1 ≤ length w → t ≡ is_word_byte (get_or w 0 0) → t ≡ false → (get_or w 0 0 ≡ 45 → ⊥) → 1 ≡ size w
 sized_other [] some is h m = absurd (omega arith)
@@ -87,13 +91,12 @@ sized_single (b ∷ []) some few is h = go (eqb b 45) refl
 sized_single (b ∷ c ∷ w) some few is h = absurd (omega arith)
 
 -- behind a dash
-pub sized_number : (w : List ℕ) {u : Bool} {n : ℕ} → get_or w 0 0 ≡ 45 → 2 ≤ length w → u ≡ is_digit (get_or w 1 0) → u ≡ true → n ≡ span is_word_byte (drop 1 w) → 1 + n ≡ size w
+pub sized_number : (w : List ℕ) {u : Bool} {n : ℕ} → get_or w 0 0 ≡ 45 → 2 ≤ length w → u ≡ is_digit (get_or w 1 0) → u ≡ true → n ≡ span is_word_byte (drop 2 w) → 2 + n ≡ size w
 sized_number [] m more is h e = absurd (omega arith)
 sized_number (b ∷ []) m more is h e = absurd (omega arith)
 sized_number (b ∷ c ∷ w) {u} {n} m more is h e =
-    let d = sym is ∙ h in
-    let k : 1 + n ≡ suc (suc (span is_word_byte w)) = rw (e ∙ span_true is_word_byte c w (rw d)) (omega arith) in
-    k ∙ sym (size_dash b (c ∷ w) m ∙ dash_digits c w d)
+    let k : 2 + n ≡ suc (suc (span is_word_byte w)) = omega (arith, e) in
+    k ∙ sym (size_dash b (c ∷ w) m ∙ dash_digits c w (sym is ∙ h))
 
 pub sized_arrow : (w : List ℕ) {u : Bool} → get_or w 0 0 ≡ 45 → 2 ≤ length w → u ≡ is_digit (get_or w 1 0) → u ≡ false → get_or w 1 0 ≡ 62 → 2 ≡ size w
 sized_arrow [] m more is h g = absurd (omega arith)
@@ -106,16 +109,28 @@ sized_mark (b ∷ []) m more is h g = absurd (omega arith)
 sized_mark (b ∷ c ∷ w) m more is h g = sym (size_dash b (c ∷ w) m ∙ dash_mark c w false (sym is ∙ h) (ne_eqb c 62 g))
 
 -- what is at a place
-pub skipped : (s : List ℕ) (at : ℕ) {rest : List ℕ} {r : ℕ} → at ≤ length s → rest ≡ slice_range s at (length s) → (r ≡ span is_blank rest) × (r ≤ length rest) → Skipped s at (at + r)
+pub skipped : (s : List ℕ) (at i : ℕ) → at ≤ i → i ≤ length s → ((k : ℕ) → at ≤ k → k < i → is_blank (get_or s k 0) ≡ true) → (i < length s → is_blank (get_or s i 0) ≡ false) → Skipped s at i
 unfolding place_from
-skipped s at {rest} {r} h e k =
-    let f = e ∙ rest_is s at in
-    let n : length rest ≡ length s - at = ap length f ∙ length-drop at s in
-    record { is = rw (← f) (ap (λ (m : ℕ). at + m) k.0); low = omega arith; high = omega (arith, k.1) }
+skipped s at i lo hi good bad = record { is = sym (span_until is_blank s at i lo hi good bad); low = lo; high = omega arith }
 
 pub skipped_none : (s : List ℕ) (at : ℕ) → length s < at → Skipped s at at
 unfolding place_from
 skipped_none s at h = record { is = rw (drop_of_length-le s {i = at} (omega arith), span_none is_blank [] (omega arith)) (omega arith); low = omega arith; high = omega arith }
+
+-- the first byte from `at` on that is no blank, as the library finds it; or the end
+pub skipped_to : (s : List ℕ) (at e : ℕ) (r : Option ℕ) → e ≡ max at (length s) → MatchOption r ((k : ℕ) → at ≤ k → k < length s → is_blank (get_or s k 0) ≡ true) (λ i. (at ≤ i) × (i < length s) × (is_blank (get_or s i 0) ≡ false) × ((k : ℕ) → at ≤ k → k < i → is_blank (get_or s k 0) ≡ true)) → Skipped s at (unwrap_or r e)
+skipped_to s at e (Some i) m f = skipped s at i f.0 (omega (arith, f.1)) f.3 (λ l. f.2)
+skipped_to s at e None m f = go (ltb (length s) at) refl
+  where
+    go : (t : Bool) → ltb (length s) at ≡ t → Skipped s at e
+    go true h =
+        let l = ltb-true (length s) at h in
+        let q : e ≡ at = omega arith in
+        rw q (skipped_none s at l)
+    go false h =
+        let l = ltb-false (length s) at h in
+        let q : e ≡ length s = omega arith in
+        rw q (skipped s at (length s) l (omega arith) f (λ i. absurd (omega arith)))
 
 module _ (s : List ℕ) (p : ℕ) where
   pub size_past : length s ≤ p → size_at s p ≡ 0

@@ -2,10 +2,10 @@
 use mathlib.Core.Path.{◌≡◌, refl, ap}
 use mathlib.Core.Bool.{Bool, true, false, cond, not, ◌&&◌}
 use mathlib.Core.List.{List, [], ◌∷◌}
-use Prim.Native.Nat.{ℕ, suc, ◌+◌, ◌≤◌}
+use Prim.Native.Nat.{ℕ, zero, suc, ◌+◌, ◌≤◌, ◌<◌}
 use native.Mathlib.Omega.{arith}
 use borrow.Author.Tests.{ltb-false}
-use lib.ListN.{length, drop, length-drop}
+use lib.ListN.{length, get_or, drop, length-drop}
 use lib.Seq.{take-length}
 use lib.Dec.{ltb}
 use Rattle.std.specs.Prelude.{Some, None}
@@ -28,6 +28,23 @@ module _ (P : ℕ → Bool) where
   unfolding span
   span_none [] h = refl
   span_none (b ∷ w) h = absurd (omega arith)
+
+  -- where the bytes of a class end: at i, if all from `at` up to i are of it and the one at i is not
+  pub span_until : (s : List ℕ) (at i : ℕ) → at ≤ i → i ≤ length s → ((k : ℕ) → at ≤ k → k < i → P (get_or s k 0) ≡ true) → (i < length s → P (get_or s i 0) ≡ false) → at + span P (drop at s) ≡ i
+  unfolding span
+  span_until [] zero zero lo hi good bad = refl
+  span_until [] zero (suc i) lo hi good bad = absurd (omega arith)
+  span_until [] (suc at) i lo hi good bad = absurd (omega arith)
+  span_until (b ∷ w) zero zero lo hi good bad =
+      let h = span_false b w (bad (omega arith)) in
+      omega (arith, h)
+  span_until (b ∷ w) zero (suc i) lo hi good bad =
+      let h = span_until w zero i (omega arith) (omega arith) (λ k a l. good (suc k) (omega arith) (omega arith)) (λ l. bad (omega arith)) in
+      rw (span_true b w (good zero (omega arith) (omega arith))) (omega arith)
+  span_until (b ∷ w) (suc at) zero lo hi good bad = absurd (omega arith)
+  span_until (b ∷ w) (suc at) (suc i) lo hi good bad =
+      let h = span_until w at i (omega arith) (omega arith) (λ k a l. good (suc k) (omega arith) (omega arith)) (λ l. bad (omega arith)) in
+      omega arith
 
 -- `all` and `span` as the library counts
 pub all_listed : (P : ℕ → Bool) (w : List ℕ) → all P w ≡ list_all P w

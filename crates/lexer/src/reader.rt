@@ -21,10 +21,9 @@ pub fn span(s: &[u8], class: Class) -> usize
 pub fn skip_blanks(s: &[u8], at: usize) -> usize
     ensures { Skipped s.now at result }
 {
-    match s.get(at..) {
-        Some(rest) => at + span(rest, Class::Blank),
-        None => at,
-    }
+    (at..s.len())
+        .find(|p| !classes::is_blank(s[*p]))
+        .unwrap_or(at.max(s.len()))
 }
 
 // How long the word, number or mark at the front is: a run of letters and digits, with a `-` directly before a digit; `->`;
@@ -36,8 +35,8 @@ fn size(rest: &[u8]) -> usize
 {
     match rest {
         [] => 0,
-        [b, ..] if classes::is_word_byte(*b) => span(rest, Class::Word),
-        [b'-', d, ..] if classes::is_digit(*d) => 1 + span(&rest[1..], Class::Word),
+        [b, more @ ..] if classes::is_word_byte(*b) => 1 + span(more, Class::Word),
+        [b'-', d, more @ ..] if classes::is_digit(*d) => 2 + span(more, Class::Word),
         [b'-', b'>', ..] => 2,
         _ => 1,
     }

@@ -11,17 +11,12 @@ pub returns-in-empty-clause-is : goal.returns-in-empty-clause-is
 returns-in-empty-clause-is c = search sized_none
 
 pub returns-in-len1-up-clause-is : goal.returns-in-len1-up-clause-is
-returns-in-len1-up-clause-is c = search sized_word
-
-pub returns-in-len1-up-clause-some : goal.returns-in-len1-up-clause-some
-returns-in-len1-up-clause-some c =
-    let e = sized_word _ c.in-len1-up.len_at_least c.is_word_byte.ensures c.if-is_word_byte.true c.span.ensures.0 in
-    rw e (size_some _)
+returns-in-len1-up-clause-is c = sized_word _ c.in-len1-up.len_at_least c.is_word_byte.ensures c.if-is_word_byte.true (c.span.ensures.0 ∙ ap (span is_word_byte) (rest_is c.args.rest.now 1))
 
 pub returns-in-45-clause-is : goal.returns-in-45-clause-is
 returns-in-45-clause-is c =
     let m : get_or c.args.rest.now 0 0 ≡ 45 = omega arith in
-    sized_number _ m c.in-45.len_at_least c.is_digit.ensures c.if-is_digit.true (c.span-in-45.ensures.0 ∙ ap (span is_word_byte) (rest_is c.args.rest.now 1))
+    sized_number _ m c.in-45.len_at_least c.is_digit.ensures c.if-is_digit.true (c.span-in-45.ensures.0 ∙ ap (span is_word_byte) (rest_is c.args.rest.now 2))
 
 pub returns-in-45-2-clause-is : goal.returns-in-45-2-clause-is
 returns-in-45-2-clause-is c =

@@ -1,10 +1,13 @@
 -- `skip_blanks` stops behind the blanks. Assumes nothing.
-use native.Mathlib.Omega.{arith}
-use Rattle.lexer.proofs.Sizes.{skipped, skipped_none}
+use Rattle.std.proofs.Common.{rules, tests, ◌≡◌, true, false}
+use Rattle.std.proofs.lemmas.Iterator.{first_from_Range}
+use lib.ListN.{get_or}
+use Rattle.language.specs.Tokens.{is_blank}
+use Rattle.lexer.proofs.Sizes.{skipped_to}
 use Rattle.lexer.proofs.reader.skip_blanks.Goals as goal
 
-pub returns-in-Some : goal.returns-in-Some
-returns-in-Some c = let h = c.in-Some.ensures.lookup.0 in skipped _ _ h.0 h.2 c.span.ensures
-
-pub returns-in-None : goal.returns-in-None
-returns-in-None c = let h = c.in-None.ensures.lookup.0 in skipped_none _ _ (omega arith)
+pub returns : goal.returns
+returns c =
+    let s = c.args.s.now in
+    let m = first_from_Range _ _ _ c.find.result (λ i. is_blank (get_or s i 0) ≡ false) (λ i. is_blank (get_or s i 0) ≡ true) c.find.ensures.ran (λ x q k. search (rules, tests)) (λ x q k. search (rules, tests)) in
+    rw c.unwrap_or.ensures (skipped_to s c.args.at _ c.find.result c.max.ensures m)
