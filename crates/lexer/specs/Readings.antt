@@ -1,7 +1,15 @@
 -- What the word reader's functions give, with the bounds that callers go by. All of it holds beyond the text's end too.
-use Rattle.std.specs.Prelude.{ℕ, min, ◌+◌, ◌-◌, ◌≤◌, ◌≡◌, List, length}
+use Rattle.std.specs.Prelude.{ℕ, min, ◌+◌, ◌-◌, ◌≤◌, ◌≡◌, List, length, drop}
 use Rattle.language.specs.declared.Token.{Token}
-use Rattle.language.specs.Tokens.{place_from, size_at, token_from}
+use Rattle.language.specs.Tokens.{span, place_from, size_at, token_from}
+use Rattle.lexer.specs.declared.Class.{Class}
+use Rattle.lexer.specs.Classes.{test_of}
+
+-- the end of the bytes of a class, from `from` on
+pub record Spanned (class : Class) (s : List ℕ) (from r : ℕ) : Type 0 where
+  pub is : r ≡ from + span (test_of class) (drop from s)
+  pub low : from ≤ r
+  pub high : r ≤ from + (length s - from)
 
 -- the place behind the blanks
 pub record Skipped (s : List ℕ) (at r : ℕ) : Type 0 where

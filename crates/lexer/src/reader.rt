@@ -1,9 +1,9 @@
 // Where the next word, number or mark stands. A text and a place, and not a slice: a place may lie past the text's end, where
 // nothing stands.
-ghost use Rattle.std.specs.Prelude.{◌≡◌, ◌≤◌, min, length};
-ghost use Rattle.language.specs.Tokens.{span, size};
+ghost use Rattle.std.specs.Prelude.{◌≡◌, ◌≤◌, length};
+ghost use Rattle.language.specs.Tokens.{span};
 ghost use Rattle.lexer.specs.Classes.{test_of};
-ghost use Rattle.lexer.specs.Readings.{Skipped, WordSized, NextWord};
+ghost use Rattle.lexer.specs.Readings.{Spanned, Skipped, WordSized, NextWord};
 
 use super::{Class, classes};
 use language::Token;
@@ -17,38 +17,40 @@ pub fn span(s: &[u8], class: Class) -> usize
         .unwrap_or(s.len())
 }
 
+// The first place from `from` on whose byte is not of a class; the text's end if there is none, or `from` beyond it.
+fn past(s: &[u8], from: usize, class: Class) -> usize
+    ensures { Spanned class s.now from result }
+{
+    (from..s.len())
+        .find(|p| !classes::passes(class, s[*p]))
+        .unwrap_or(from.max(s.len()))
+}
+
 // Past the blanks.
 pub fn skip_blanks(s: &[u8], at: usize) -> usize
     ensures { Skipped s.now at result }
 {
-    (at..s.len())
-        .find(|p| !classes::is_blank(s[*p]))
-        .unwrap_or(at.max(s.len()))
+    past(s, at, Class::Blank)
 }
 
-// How long the word, number or mark at the front is: a run of letters and digits, with a `-` directly before a digit; `->`;
-// or one byte.
-fn size(rest: &[u8]) -> usize
-    ensures is { result ≡ size rest.now }
-    ensures some { min 1 (length rest.now) ≤ result }
-    ensures within { result ≤ length rest.now }
-{
-    match rest {
-        [] => 0,
-        [b, more @ ..] if classes::is_word_byte(*b) => 1 + span(more, Class::Word),
-        [b'-', d, more @ ..] if classes::is_digit(*d) => 2 + span(more, Class::Word),
-        [b'-', b'>', ..] => 2,
-        _ => 1,
-    }
-}
-
-// How long the word, number or mark at p is.
+// How long the word, number or mark at p is: a run of letters and digits, with a `-` directly before a digit; `->`; or one byte.
 pub fn size_at(s: &[u8], p: usize) -> usize
     ensures { WordSized s.now p result }
 {
-    match s.get(p..) {
-        Some(rest) => size(rest),
-        None => 0,
+    if s.len() <= p {
+        return 0;
+    }
+    let b = s[p];
+    if classes::is_word_byte(b) {
+        return past(s, p + 1, Class::Word) - p;
+    }
+    if b != b'-' {
+        return 1;
+    }
+    match classes::byte_at(s, p + 1) {
+        d if classes::is_digit(d) => past(s, p + 2, Class::Word) - p,
+        b'>' => 2,
+        _ => 1,
     }
 }
 

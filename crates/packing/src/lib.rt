@@ -15,12 +15,11 @@ pub enum Case {
 fn letter(b: u8) -> u64
     ensures { (result ≡ letter_of b) × (result < 37) }
 {
-    let before = match b {
-        ..=b'9' => 21,
-        ..=b'Z' => 64,
-        _ => 96,
-    };
-    u64::from(b.saturating_sub(before) % 37)
+    u64::from(match b {
+        ..=b'9' => b.saturating_sub(21) % 37,
+        ..=b'Z' => b.saturating_sub(64) % 37,
+        _ => b.saturating_sub(96) % 37,
+    })
 }
 
 // A word of at most 12 bytes as one number.

@@ -6,7 +6,7 @@ use Prim.Native.Nat.{ℕ, ◌+◌, ◌-◌, ◌*◌, ◌/◌, ◌≤◌, ◌<◌
 use native.Mathlib.Nat.{add-zero}
 use native.Mathlib.Omega.{arith}
 use lib.Dec.{leb}
-use lib.ListN.{length, get_or, take, drop_of_length-le}
+use lib.ListN.{length, get_or, set, take, drop, length-drop, drop_of_length-le}
 use lib.Seq.{slice, length-slice, length-take-le}
 use borrow.Rule.Slice.PartMut.{put_mid}
 use Rattle.std.specs.List.{copy_within}
@@ -14,6 +14,15 @@ use Rattle.std.proofs.lemmas.Slice.{between_is}
 use borrow.Author.Tests.{le-leb, lt-leb, leb-true, leb-false}
 use Rattle.tables.specs.Tables.{put, field, record_put, shifted}
 use Rattle.tables.proofs.Put.{put_none, length_put, put_below, put_inside, put_behind, put_part}
+
+-- four numbers stored over four
+four_over : (xs : List ℕ) (a b c d : ℕ) → length xs ≡ 4 → set (set (set (set xs 0 a) 1 b) 2 c) 3 d ≡ a ∷ b ∷ c ∷ d ∷ []
+four_over [] a b c d e = absurd (omega arith)
+four_over (w ∷ []) a b c d e = absurd (omega arith)
+four_over (w ∷ x ∷ []) a b c d e = absurd (omega arith)
+four_over (w ∷ x ∷ y ∷ []) a b c d e = absurd (omega arith)
+four_over (w ∷ x ∷ y ∷ z ∷ []) a b c d e = refl
+four_over (w ∷ x ∷ y ∷ z ∷ v ∷ xs) a b c d e = absurd (omega arith)
 
 module _ (t : List ℕ) (i a b c d : ℕ) where
   pub record_fits : i * 4 + 4 ≤ length t → record_put t i a b c d ≡ put t (i * 4) (a ∷ b ∷ c ∷ d ∷ [])
@@ -61,8 +70,11 @@ module _ (t : List ℕ) (i a b c d : ℕ) where
     record_fourth = rw (record_fits h) (put_inside t (i * 4) 3 (a ∷ b ∷ c ∷ d ∷ []) (omega arith) (omega arith))
 
   -- what put_record does, with room and without
-  pub four_are : (k : ℕ) → i < length t / 4 → k ≡ 4 → put_mid (i * 4) k t (a ∷ b ∷ c ∷ d ∷ []) ≡ record_put t i a b c d
-  four_are k h e = put_part t (i * 4) k (a ∷ b ∷ c ∷ d ∷ []) e ∙ sym (record_fits (omega arith))
+  pub four_are : (k : ℕ) → i < length t / 4 → k ≡ 4 → put_mid (i * 4) k t (set (set (set (set (take k (drop (i * 4) t)) 0 a) 1 b) 2 c) 3 d) ≡ record_put t i a b c d
+  four_are k h e =
+      let n = length-drop (i * 4) t in
+      let l = length-take-le k (drop (i * 4) t) (omega arith) in
+      rw (four_over (take k (drop (i * 4) t)) a b c d (omega arith)) (put_part t (i * 4) k (a ∷ b ∷ c ∷ d ∷ []) e ∙ sym (record_fits (omega arith)))
 
 -- ---- records that move up
 module _ (t : List ℕ) (from to : ℕ) where

@@ -26,8 +26,11 @@ pub fn put_record(t: &mut [u32], i: usize, a: u32, b: u32, c: u32, d: u32)
     ensures { t.new ≡ record_put t.old i a b c d }
 {
     if i < t.len() / 4 {
-        let start = i * 4;
-        t[start..start + 4].copy_from_slice(&[a, b, c, d]);
+        let record = &mut t[i * 4..i * 4 + 4];
+        record[0] = a;
+        record[1] = b;
+        record[2] = c;
+        record[3] = d;
     }
 }
 
