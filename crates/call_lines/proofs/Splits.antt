@@ -7,7 +7,7 @@ use mathlib.Core.Option as maybe
 use native.Mathlib.Numerals.{add-one}
 use native.Mathlib.Omega.{arith}
 use lib.Dec.{eqb, ltb}
-use borrow.Author.Tests.{eqb-true, eqb-false, ltb-false}
+use borrow.Author.Tests.{ltb-false}
 use lib.ListN.{length, take, drop, get_or, length-drop}
 use lib.Seq.{take_all}
 use Rattle.std.specs.Prelude.{Option, Some, None, position}
@@ -91,21 +91,21 @@ behind x y z c w k = go (eqb c 10)
     go false = first (split 10 w)
 
 -- ---- lines
-module _ {s a b c r₁ r₂ r₃ : List ℕ} {t : Bool} (one : CutOff 10 s a r₁) (two : CutOff 10 r₁ b r₂) (three : CutOff 10 r₂ c r₃) (e : t ≡ eqb (length r₃) 0) where
+module _ {s a b c r₁ r₂ r₃ : List ℕ} (one : CutOff 10 s a r₁) (two : CutOff 10 r₁ b r₂) (three : CutOff 10 r₂ c r₃) where
   cut : split 10 s ≡ a ∷ b ∷ c ∷ split 10 r₃
   cut = one.is ∙ ap (λ (x : List (List ℕ)). a ∷ x) (two.is ∙ ap (λ (x : List (List ℕ)). b ∷ x) three.is)
 
-  pub more_behind : t ≡ false → (k : List ℕ → List ℕ → List ℕ → maybe.Option (List ℕ)) → on_lines (split 10 s) k ≡ maybe.none
-  more_behind h k = rw cut (go r₃ (sym e ∙ h))
+  pub more_behind : 0 < length r₃ → (k : List ℕ → List ℕ → List ℕ → maybe.Option (List ℕ)) → on_lines (split 10 s) k ≡ maybe.none
+  more_behind h k = rw cut (go r₃ h)
     where
-      go : (r : List ℕ) → eqb (length r) 0 ≡ false → on_lines (a ∷ b ∷ c ∷ split 10 r) k ≡ maybe.none
-      go [] f = absurd (eqb-false 0 0 f refl)
+      go : (r : List ℕ) → 0 < length r → on_lines (a ∷ b ∷ c ∷ split 10 r) k ≡ maybe.none
+      go [] f = absurd (omega arith)
       go (d ∷ w) f = behind a b c d w k
 
-  pub cut_three : t ≡ true → split 10 s ≡ a ∷ b ∷ c ∷ [] ∷ []
+  pub cut_three : length r₃ ≡ 0 → split 10 s ≡ a ∷ b ∷ c ∷ [] ∷ []
   unfolding split
-  cut_three h = cut ∙ ap (λ (x : List (List ℕ)). a ∷ b ∷ c ∷ x) (go r₃ (sym e ∙ h))
+  cut_three h = cut ∙ ap (λ (x : List (List ℕ)). a ∷ b ∷ c ∷ x) (go r₃ h)
     where
-      go : (r : List ℕ) → eqb (length r) 0 ≡ true → split 10 r ≡ [] ∷ []
+      go : (r : List ℕ) → length r ≡ 0 → split 10 r ≡ [] ∷ []
       go [] f = refl
-      go (d ∷ w) f = let z = eqb-true (length (d ∷ w)) 0 f in absurd (omega arith)
+      go (d ∷ w) f = absurd (omega arith)

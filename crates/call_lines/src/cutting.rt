@@ -26,7 +26,7 @@ pub fn cut_lines<'a>(s: &'a [u8]) -> Option<Lines<'a>>
     let (budgets, others) = cut(s, b'\n')?;
     let (program, last) = cut(others, b'\n')?;
     let (object, behind) = cut(last, b'\n')?;
-    if !behind.is_empty() {
+    if 0 < behind.len() {
         return None;
     }
     Some(Lines {
