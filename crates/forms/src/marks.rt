@@ -8,6 +8,7 @@ use super::{CommaRead, TestRead};
 use language::RefusedText;
 
 // The place behind the mark b, which is next from `at` on.
+#[inline(always)]
 pub fn read_mark(s: &[u8], at: usize, b: u8) -> Result<usize, RefusedText>
     requires { (length s.now ≤ program_limit) × (at ≤ length s.now) }
     ensures { Marked b s.now at result }
@@ -64,6 +65,7 @@ fn is_arrow(s: &[u8], p: usize) -> bool
 }
 
 // What follows the first form in `( )`, which ends before `at`.
+#[inline(always)]
 pub fn read_test(s: &[u8], at: usize) -> Result<TestRead, RefusedText>
     requires { (length s.now ≤ program_limit) × (at ≤ length s.now) }
     ensures { Tested s.now at result }

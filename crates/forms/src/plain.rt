@@ -81,6 +81,7 @@ pub fn read_constant(
 }
 
 // Behind the form of `{f,x}`: the comma, the object, which is read to the cells from `used` on, and the `}`.
+#[inline(always)]
 pub fn read_bound(
     s: &[u8],
     at: usize,

@@ -163,6 +163,7 @@ fn read_forms(
 
 // Behind a `/` or an `@`: a part.
 #[cycle(form_reading)]
+#[inline(always)]
 fn read_prefix(
     kind: Kind,
     s: &[u8],
@@ -237,6 +238,7 @@ fn read_round(
 
 // A form and the `)` behind it.
 #[cycle(form_reading)]
+#[inline(always)]
 fn read_closed(
     s: &[u8],
     from: Upto,

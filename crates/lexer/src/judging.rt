@@ -198,6 +198,7 @@ pub fn judge_name(word: &[u8]) -> Result<u64, Refusal>
 }
 
 // The refusal where nothing that stands at p fits: 9 for a word over 12 characters, 6 for all else.
+#[cold]
 pub fn refusal(s: &[u8], p: usize) -> Refusal
     ensures { result ≡ refusal (refusal_of (word_at s.now p)) }
 {

@@ -34,6 +34,7 @@ pub fn skip_blanks(s: &[u8], at: usize) -> usize
 }
 
 // How long the word, number or mark at p is: a run of letters and digits, with a `-` directly before a digit; `->`; or one byte.
+#[inline(always)]
 pub fn size_at(s: &[u8], p: usize) -> usize
     ensures { WordSized s.now p result }
 {
