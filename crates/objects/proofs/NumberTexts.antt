@@ -82,6 +82,9 @@ spell_end {n} {a} {left} {i} h g =
 
 -- ---- a text is put
 -- the output has room for all of it
-pub put_part : {out : List ℕ} {at : ℕ} {text part : List ℕ} → part ≡ text → PutText out at text (put_mid at (at + length text - at) out part)
+pub put_part : {out : List ℕ} {at : ℕ} {text part : List ℕ} → part ≡ text → at + length text ≤ length out → PutText out at text (put_mid at (at + length text - at) out part)
 unfolding put
-put_part {out} {at} {text} {part} e = record { is = λ room. let k : at + (at + length text - at) ≡ at + length text = omega arith in rw (e, drop-drop, k) (sym (append_assoc (take at out) text (drop (at + length text) out))) }
+put_part {out} {at} {text} {part} e fits = record {
+  is = λ room. let k : at + (at + length text - at) ≡ at + length text = omega arith in rw (e, drop-drop, k) (sym (append_assoc (take at out) text (drop (at + length text) out)));
+  stays = λ short. absurd (omega arith);
+}

@@ -37,8 +37,10 @@ pub record DigitsAt (n r : ℕ) (a : List ℕ) : Type 0 where
   pub high : r ≤ 20
   pub is : drop r a ≡ decimal n
 
+-- the text stands at the place; or the output has no room for all of it, and nothing has changed
 pub record PutText (out : List ℕ) (at : ℕ) (text out' : List ℕ) : Type 0 where
   pub is : at + length text ≤ length out → out' ≡ put out at text
+  pub stays : length out < at + length text → out' ≡ out
 
 -- A walk over a text from `at` on, which may go up to `cap`: d marks are open before it and d' behind it. It answers by the
 -- scan of the text; where all of it fits, and the output has room for it, the text stands there.

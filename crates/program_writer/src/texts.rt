@@ -1,6 +1,7 @@
 // Walks over texts, words, names and constants.
 ghost use Rattle.std.specs.Prelude.{[], ◌∷◌};
 ghost use Rattle.lexer.specs.Vocabulary.{spelled_at};
+ghost use Rattle.objects.specs.Writings.{PutText};
 ghost use Rattle.program_writer.specs.Walks.{Behind, Kept, Wrote, NameWalked, ConstantWalked};
 
 use super::Writer;
@@ -21,6 +22,7 @@ impl<'a> Writer<'a> {
     pub fn text(&mut self, text: &[u8])
         ensures kept { Kept self.old self.new }
         ensures wrote { Wrote text.now self.old.at self.new.at self.old.out.now self.new.out.now }
+        ensures put { PutText self.old.out.now self.old.at text.now self.new.out.now }
     {
         objects::put_text(self.out, self.at, text);
         self.at = behind(self.at, text.len());
