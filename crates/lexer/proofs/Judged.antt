@@ -109,8 +109,8 @@ negative_over zero h = absurd (omega arith)
 negative_over (suc n) h = rw (le-ltb n 2147483648 (omega arith))
 
 -- an `r` and nothing more
-pub r_long : (w : List ℕ) → 2 ≤ length w → false ≡ same_bytes w (bytes "r")
-r_long w h = sym (same_not w (bytes "r") (λ e. omega arith))
+pub r_long : (w : List ℕ) → (length w ≡ 1 → ⊥) → false ≡ same_bytes w (bytes "r")
+r_long w h = sym (same_not w (bytes "r") h)
 
 pub negative_none : (w : List ℕ) → length w < 1 → Err NotInGrammar ≡ atom_judged (judge_negative w)
 unfolding judge_negative
