@@ -5,7 +5,7 @@ use Rattle.tables.proofs.Records.{four_are, record_none}
 use Rattle.tables.proofs.put_record.Goals as goal
 
 pub returns-then-i-t : goal.returns-then-i-t
-returns-then-i-t c = four_are _ _ _ _ _ _ _ c.if-i-t.true (omega arith)
+returns-then-i-t c = four_are _ _ _ _ _ _ _ (omega arith) (omega arith)
 
 pub returns-else-i-t : goal.returns-else-i-t
 returns-else-i-t c = sym (record_none _ _ _ _ _ _ (omega arith))
