@@ -1,6 +1,6 @@
 // Cases as tools/convert_vectors.py writes them: thirteen numbers of 32 bits, the lowest byte first, and three texts. In
 // front of a wrong case stand three numbers more: the entry that it expects to be another.
-ghost use Rattle.std.specs.Prelude.{◌≡◌, ◌<◌, ◌↔◌, Ok};
+ghost use Rattle.std.specs.Prelude.{◌≡◌, ◌<◌, ◌↔◌, Ok, false};
 ghost use Rattle.vectors.specs.declared.cases.Table.TheVariants.{Output, Forms, Cells};
 
 use language::Answer;
@@ -55,6 +55,13 @@ pub struct Case {
 }
 
 impl Case {
+    // Whether the case names an entry of this table.
+    pub fn names(&self, table: Table) -> bool
+        ensures { self.now.entry ≡ None → result ≡ false }
+    {
+        self.entry.is_some_and(|e| e.table == table)
+    }
+
     // What has to stand at place i of a table, where all is v but the entry that the case names.
     pub fn expected(&self, table: Table, i: usize, v: u32) -> u32
         ensures { self.now.entry ≡ None → result ≡ v }

@@ -3,7 +3,7 @@ ghost use Rattle.std.specs.Prelude.{◌≡◌, IsNone};
 
 use crate::cases::Case;
 use crate::differences::{Difference, Field};
-use crate::lent::{Lent, TEXT_ROOM};
+use crate::lent::{self, Lent, TEXT_ROOM, Texts};
 use crate::printing;
 use language::Answer;
 use std::fs::File;
@@ -40,19 +40,33 @@ fn read_text<'a>(file: &mut File, room: &'a mut [u8], n: u32) -> io::Result<&'a 
     Ok(text)
 }
 
-// Reads the three texts of case k, runs it, prints where it is not as expected, and gives whether all agrees.
-pub fn run_case(rt: &HostRuntime, file: &mut File, c: &Case, k: u64) -> io::Result<bool> {
-    let mut program: [u8; TEXT_ROOM] = streams::filled(0);
-    let mut object: [u8; TEXT_ROOM] = streams::filled(0);
-    let mut text: [u8; TEXT_ROOM] = streams::filled(0);
-    let program = read_text(file, &mut program, c.program)?;
-    let object = read_text(file, &mut object, c.object)?;
-    let text = read_text(file, &mut text, c.text)?;
-    let mut lent = Lent::new();
-    let a = lent.run(c, program, object);
-    if let Some(d) = first_difference(c, text, a, &lent) {
+// Runs case k on its texts, prints where it is not as expected, and gives whether all agrees.
+fn compare(rt: &HostRuntime, c: &Case, texts: Texts<'_>, k: u64) -> io::Result<bool> {
+    let mut forms = streams::filled(7);
+    let mut table = streams::filled(7);
+    let mut output = streams::filled(9);
+    let a = lent::run(c, texts, &mut forms, &mut table, &mut output);
+    let lent = Lent {
+        forms: &forms,
+        table: &table,
+        output: &output,
+    };
+    if let Some(d) = first_difference(c, texts.output, a, &lent) {
         printing::print_difference(rt, k, d, c.answer, a)?;
         return Ok(false);
     }
     Ok(true)
+}
+
+// Reads the three texts of case k, and runs it.
+pub fn run_case(rt: &HostRuntime, file: &mut File, c: &Case, k: u64) -> io::Result<bool> {
+    let mut program: [u8; TEXT_ROOM] = streams::filled(0);
+    let mut object: [u8; TEXT_ROOM] = streams::filled(0);
+    let mut text: [u8; TEXT_ROOM] = streams::filled(0);
+    let texts = Texts {
+        program: read_text(file, &mut program, c.program)?,
+        object: read_text(file, &mut object, c.object)?,
+        output: read_text(file, &mut text, c.text)?,
+    };
+    compare(rt, c, texts, k)
 }

@@ -9,14 +9,22 @@ use language::{Answer, Refusal};
 pub const TEXT_ROOM: usize = 20000;
 
 // Four numbers to each of 4,100 cells: a few over the limit, so that cases past it can be run.
-const CELL_ROOM: usize = 16400;
+pub const CELL_ROOM: usize = 16400;
 
-// Tables full of 7, and an output full of 9.
-#[derive(Drop)]
-pub struct Lent {
-    forms: [u32; language::FORM_TABLE_SIZE],
-    table: [u32; CELL_ROOM],
-    output: [u8; TEXT_ROOM],
+// A case's texts, and the output that it expects.
+#[derive(Clone, Copy)]
+pub struct Texts<'a> {
+    pub program: &'a [u8],
+    pub object: &'a [u8],
+    pub output: &'a [u8],
+}
+
+// What stands in the tables and in the output after a run that was lent them full of 7 and full of 9.
+#[derive(Clone, Copy)]
+pub struct Lent<'a> {
+    pub forms: &'a [u32],
+    pub table: &'a [u32],
+    pub output: &'a [u8],
 }
 
 // How much of the cell table is lent for so many cells: four numbers to each.
@@ -38,64 +46,75 @@ fn left_in_tables(number: u32) -> u32
     }
 }
 
-// The first place where something else stands than is wanted there.
-fn first_other<T: Copy + Into<u32>, F: Fn(usize) -> u32>(entries: &[T], wanted: F) -> Option<usize>
+// The first place of a stretch where something else stands than the case expects: what `wanted` says, but for an entry that
+// the case names. The stretch begins at this place of the table.
+fn first_other<T: Copy + Into<u32>, F: Fn(usize) -> u32>(
+    c: &Case,
+    table: Table,
+    from: usize,
+    stretch: &[T],
+    wanted: F,
+) -> Option<usize>
     requires { F.IsAlwaysCallable wanted }
-    ensures { IfSome result (λ i. i < length entries.now) }
+    ensures { IfSome result (λ i. i < length stretch.now) }
 {
-    (0..entries.len()).find(|i| entries[*i].into() != wanted(*i))
+    let mut entries = stretch.iter().enumerate();
+    if !c.names(table) {
+        return entries.position(|(i, x)| (*x).into() != wanted(i));
+    }
+    entries.position(|(i, x)| {
+        (*x).into() != c.expected(table, from.saturating_add(i), wanted(i))
+    })
 }
 
-impl Lent {
-    pub fn new() -> Lent {
-        Lent {
-            forms: streams::filled(7),
-            table: streams::filled(7),
-            output: streams::filled(9),
-        }
-    }
+// Runs the case on these texts.
+pub fn run(
+    c: &Case,
+    texts: Texts<'_>,
+    forms: &mut [u32; language::FORM_TABLE_SIZE],
+    table: &mut [u32; CELL_ROOM],
+    output: &mut [u8; TEXT_ROOM],
+) -> Answer {
+    let n = cells_lent(c.cells);
+    let room = (c.room as usize).min(TEXT_ROOM);
+    nattglod::run(
+        texts.program,
+        texts.object,
+        c.steps,
+        c.names,
+        c.cells,
+        forms,
+        &mut table[..n],
+        &mut output[..room],
+    )
+}
 
-    // Runs the case on these texts.
-    pub fn run(&mut self, c: &Case, program: &[u8], object: &[u8]) -> Answer {
-        let n = cells_lent(c.cells);
-        let room = (c.room as usize).min(TEXT_ROOM);
-        let table = &mut self.table[..];
-        let output = &mut self.output[..];
-        nattglod::run(
-            program,
-            object,
-            c.steps,
-            c.names,
-            c.cells,
-            &mut self.forms,
-            &mut table[..n],
-            &mut output[..room],
-        )
-    }
-
+impl<'a> Lent<'a> {
     // Where the output is not as the case expects: the text in front, and 9 in every byte behind it.
     pub fn output_difference(&self, c: &Case, text: &[u8]) -> Option<Difference> {
-        let place = first_other(&self.output, |i| {
-            c.expected(Table::Output, i, text.get(i).map_or(9, |b| u32::from(*b)))
-        })?;
-        Some(Difference::at(Field::Output, place))
+        let output = self.output;
+        let n = text.len().min(output.len());
+        if let Some(place) = first_other(c, Table::Output, 0, &output[..n], |i| {
+            text.get(i).map_or(9, |b| u32::from(*b))
+        }) {
+            return Some(Difference::at(Field::Output, place));
+        }
+        let i = first_other(c, Table::Output, n, &output[n..], |_| 9)?;
+        Some(Difference::at(Field::Output, n + i))
     }
 
-    // Where the tables are not as the case expects.
+    // Where the tables are not as the case expects: all is alike but in the cells behind those lent.
     pub fn table_difference(&self, c: &Case) -> Option<Difference> {
         let v = left_in_tables(c.answer.number);
-        if let Some(place) = first_other(&self.forms, |i| c.expected(Table::Forms, i, v)) {
+        if let Some(place) = first_other(c, Table::Forms, 0, self.forms, |_| v) {
             return Some(Difference::at(Field::FormTable, place));
         }
-        let n = cells_lent(c.cells);
-        let place = first_other(&self.table, |i| {
-            c.expected(Table::Cells, i, if i < n { v } else { 7 })
-        })?;
-        let field = if place < n {
-            Field::CellTable
-        } else {
-            Field::NotLent
-        };
-        Some(Difference::at(field, place))
+        let table = self.table;
+        let n = cells_lent(c.cells).min(table.len());
+        if let Some(place) = first_other(c, Table::Cells, 0, &table[..n], |_| v) {
+            return Some(Difference::at(Field::CellTable, place));
+        }
+        let i = first_other(c, Table::Cells, n, &table[n..], |_| 7)?;
+        Some(Difference::at(Field::NotLent, n + i))
     }
 }
