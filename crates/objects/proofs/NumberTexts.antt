@@ -1,9 +1,10 @@
 -- Laws of decimals and of texts put into an output: the turns of both loops.
-use Rattle.std.proofs.Common.{◌≡◌, ℕ, zero, suc, ◌+◌, ◌-◌, ◌/◌, ◌%◌, ◌^◌, ◌<◌, ◌≤◌, Bool, true, false, leb, List, [], ◌∷◌, ◌++◌, length, take, drop, set, sym, refl, ap, ◌∙◌, append_assoc, pow-suc, arith, length-set, drop-cons, get_or-set_same, drop-set-lt, drop-drop, le-leb, leb-false, leb-true}
+use Rattle.std.proofs.Common.{◌≡◌, ℕ, zero, suc, ◌+◌, ◌-◌, ◌/◌, ◌%◌, ◌^◌, ◌<◌, ◌≤◌, Bool, true, false, leb, List, [], ◌∷◌, ◌++◌, length, take, drop, set, sym, refl, ap, ◌∙◌, append_assoc, pow-suc, arith, get_or, length-set, drop-cons, get_or-set_same, drop-set-lt, drop-drop, le-leb, leb-false, leb-true}
 use borrow.Author.Tests.{lt-leb}
 use borrow.Rule.Slice.PartMut.{put_mid}
 use Rattle.language.specs.Writing.{digits, decimal}
 use Rattle.tables.specs.Tables.{put}
+use Rattle.tables.proofs.Put.{put_none, set_put}
 use Rattle.objects.specs.Writings.{DigitsAt, PutText}
 
 -- ---- decimals: the last digit is written behind the others, however many calls are allowed
@@ -81,6 +82,16 @@ spell_end {n} {a} {left} {i} h g =
     record { high = omega arith; is = stored a (i - 1) i (left % 10 + 48) (omega arith) (omega arith) ∙ rw e (ap (λ (x : List ℕ). x ++ drop i a) (sym (one_digit left (omega arith)))) ∙ sym g.is }
 
 -- ---- a text is put
+-- a text of no byte, and one of one
+pub put_empty : {out : List ℕ} {at : ℕ} {text : List ℕ} → length text < 1 → at + length text ≤ length out → PutText out at text out
+put_empty {out} {at} {text = []} h fits = record { is = λ room. sym (put_none out at); stays = λ short. refl }
+put_empty {out} {at} {text = b ∷ bs} h fits = absurd (omega arith)
+
+pub put_one : {out : List ℕ} {at : ℕ} {text : List ℕ} → 1 ≤ length text → length text < 2 → at + length text ≤ length out → PutText out at text (set out at (get_or text 0 0))
+put_one {out} {at} {text = []} h g fits = absurd (omega arith)
+put_one {out} {at} {text = b ∷ []} h g fits = record { is = λ room. set_put out at b (omega arith); stays = λ short. absurd (omega arith) }
+put_one {out} {at} {text = b ∷ (d ∷ bs)} h g fits = absurd (omega arith)
+
 -- the output has room for all of it
 pub put_part : {out : List ℕ} {at : ℕ} {text part : List ℕ} → part ≡ text → at + length text ≤ length out → PutText out at text (put_mid at (at + length text - at) out part)
 unfolding put

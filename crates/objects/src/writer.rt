@@ -19,7 +19,11 @@ pub fn put_text(out: &mut [u8], at: usize, text: &[u8])
     if out.len() - n < at {
         return;
     }
-    out[at..at + n].copy_from_slice(text);
+    match text {
+        [] => {}
+        [b] => out[at] = *b,
+        _ => out[at..at + n].copy_from_slice(text),
+    }
 }
 
 impl<'a> Writer<'a> {
