@@ -54,6 +54,7 @@ impl<'a> Writer<'a> {
     }
 
     // Walks over the digits of n.
+    #[inline(always)]
     fn decimal(&mut self, n: u64) -> Result<(), NotWritten>
         ensures kept { Kept self.old self.new }
         ensures walked { DecimalWalked n self.old.at self.old.cap (placed result self.new.at) self.old.out.now self.new.out.now }
